@@ -1,0 +1,48 @@
+//! Public doors to what the published crate keeps to itself.
+
+use crate::bytes;
+use crate::error::{Error, Result};
+use crate::fs::{Extent, Inode, Volume};
+
+/// The number that document 01 gives an error's class. The other classes belong to writing.
+pub fn class(e: &Error) -> u64 {
+    match e {
+        Error::Io(_) => 1,
+        Error::Corrupt(_) => 2,
+        Error::Unsupported(_) => 3,
+        Error::NotFound(_) => 4,
+        other => unreachable!("a writing class in a read: {other}"),
+    }
+}
+
+pub fn slice_at(b: &[u8], off: usize, len: usize) -> Result<&[u8]> {
+    bytes::slice_at(b, off, len)
+}
+
+pub fn u16_at(b: &[u8], off: usize) -> Result<u16> {
+    bytes::u16_at(b, off)
+}
+
+pub fn u32_at(b: &[u8], off: usize) -> Result<u32> {
+    bytes::u32_at(b, off)
+}
+
+pub fn u64_at(b: &[u8], off: usize) -> Result<u64> {
+    bytes::u64_at(b, off)
+}
+
+pub fn uuid_at(b: &[u8], off: usize) -> Result<[u8; 16]> {
+    bytes::uuid_at(b, off)
+}
+
+pub fn cstr(b: &[u8]) -> String {
+    bytes::cstr(b)
+}
+
+pub fn inode(id: u64, value: &[u8]) -> Result<Inode> {
+    Inode::parse(id, value)
+}
+
+pub fn extents(volume: &Volume, stream: u64) -> Result<Vec<Extent>> {
+    volume.extents(stream)
+}
