@@ -1,0 +1,109 @@
+-- How a caller's answer goes on from what an entry gives.
+use Prim.Native.Nat.{ℕ, _<_}
+use mathlib.Core.Path.{_≡_}
+use mathlib.Core.List.{List}
+use native.Mathlib.Omega.{arith}
+use Rattle.error.specs.Answer.{Answer, got, no, _>>=_}
+use Rattle.error.specs.declared.Refusal.{Refusal}
+use Rattle.error.proofs.Laws.{le-cases}
+use Rattle.bytes.specs.Number as bytes
+use Rattle.bytes.specs.Part.{partOf}
+use Rattle.bytes.specs.declared.Number.{Number}
+use Rattle.bytes.specs.declared.Span.{Span}
+use Rattle.node.specs.Node.{parsed}
+use Rattle.node.specs.Entry.{entryAt, childAt}
+use Rattle.node.specs.declared.table.KeyValue.{KeyValue}
+use Rattle.node.specs.declared.layout.Node.{Node}
+use Rattle.node.specs.declared.layout.Info.{Info}
+use Rattle.node.specs.declared.layout.Parsed.{Parsed}
+use Rattle.node.specs.declared.table.Value.{Value}
+use Rattle.lookup.specs.Counted.{Counted, after, from}
+use Rattle.lookup.proofs.Laws as lookup-laws
+use Rattle.btree.specs.Entries.{bytesOf, orderTold, orderAt, keyOrder, byOrder, recordOf, passOver, recordAt}
+use Rattle.btree.specs.declared.entries.Search.{Search}
+use Rattle.btree.specs.declared.entries.Order.{Order}
+use Rattle.btree.specs.declared.entries.Order.the-variants as order
+use Rattle.btree.specs.declared.entries.Ordered.{Ordered}
+
+pub got-same : {A : Type 0} (a b : A) → a ≡ b → got a ≡ got b
+got-same a b e = rw e
+
+pub counted-same : {A : Type 0} (s t : ℕ) (a : Answer A) → s ≡ t → after s a ≡ after t a
+counted-same s t a e = rw e
+
+-- by how a key stands to what is searched
+module _ {A : Type 0} (o : Order) (x y z w : A) where
+  pub order-below : o ≡ order.Below → w ≡ x → w ≡ byOrder o x y z
+  unfolding byOrder
+  order-below q h = rw q h
+
+  pub order-inside : o ≡ order.Inside → w ≡ y → w ≡ byOrder o x y z
+  unfolding byOrder
+  order-inside q h = rw q h
+
+  pub order-above : o ≡ order.Above → w ≡ z → w ≡ byOrder o x y z
+  unfolding byOrder
+  order-above q h = rw q h
+
+module _ {B : Type 0} (r : Ordered) (a : Answer Order) (p : orderTold r ≡ a) where
+  pub order-step : (f : Order → Answer B) (x : Order) (y : Answer B) → r ≡ Ordered.Got x → y ≡ f x → y ≡ (a >>= f)
+  order-step f x y q h = rw (← p, q) h
+
+  pub order-stop : (f : Order → Answer B) (e : Refusal) → r ≡ Ordered.No e → no e ≡ (a >>= f)
+  order-stop f e q = rw (← p, q)
+
+  pub order-on : (f : Order → Counted B) (s : ℕ) (x : Order) (y : Counted B) → r ≡ Ordered.Got x → y ≡ f x → y ≡ from s a f
+  order-on f s x y q h = rw (← p, q) h
+
+  pub order-off : (f : Order → Counted B) (s : ℕ) (e : Refusal) → r ≡ Ordered.No e → after s (no e) ≡ from s a f
+  order-off f s e q = rw (← p, q)
+
+module _ {B : Type 0} (r : Parsed) (a : Answer Node) (p : parsed r ≡ a) (f : Node → Counted B) (s : ℕ) where
+  pub node-on : (x : Node) (y : Counted B) → r ≡ Parsed.Got x → y ≡ f x → y ≡ from s a f
+  node-on x y q h = rw (← p, q) h
+
+  pub node-off : (e : Refusal) → r ≡ Parsed.No e → after s (no e) ≡ from s a f
+  node-off e q = rw (← p, q)
+
+-- an entry that stands somehow is one of the node's
+pub order-known : (b : List ℕ) (q : Search) (m : Node) (i : ℕ) (r : Ordered) (o : Order) → orderTold r ≡ orderAt b q m i → r ≡ Ordered.Got o → i < m .nkeys
+unfolding orderAt entryAt
+order-known b q m i r o p e =
+    le-cases (λ (z : Answer KeyValue). got o ≡ (z >>= λ x. keyOrder q (partOf (bytesOf b q m) (x .key))) → i < m .nkeys)
+    (λ h g. absurd (let z : _≡_ {A = ℕ} 0 1 = cc in omega arith))
+    (λ h g. h)
+    (rw e at p)
+
+-- where the key or the child was read in a list s that is u
+module _ (s u : List ℕ) (e : s ≡ u) where
+  pub order-in : (q : Search) (z : Answer Order) → z ≡ keyOrder q s → z ≡ keyOrder q u
+  order-in q z h = rw e at h
+
+  pub order-step-in : {B : Type 0} (q : Search) (r : Ordered) (f : Order → Answer B) (x : Order) (y : Answer B) → orderTold r ≡ keyOrder q s → r ≡ Ordered.Got x → y ≡ f x → y ≡ (keyOrder q u >>= f)
+  order-step-in q r f x y p g h = order-step r (keyOrder q u) (rw e at p) f x y g h
+
+  pub order-stop-in : {B : Type 0} (q : Search) (r : Ordered) (f : Order → Answer B) (w : Refusal) → orderTold r ≡ keyOrder q s → r ≡ Ordered.No w → no w ≡ (keyOrder q u >>= f)
+  order-stop-in q r f w p g = order-stop r (keyOrder q u) (rw e at p) f w g
+
+  module _ {B : Type 0} (m : Node) (info : Info) (i : ℕ) (r : Number) (p : bytes.told r ≡ childAt s m info i) (f : ℕ → Counted B) (n : ℕ) where
+    pub child-on-in : (x : ℕ) (y : Counted B) → r ≡ Number.Got x → y ≡ f x → y ≡ from n (childAt u m info i) f
+    child-on-in x y q h = rw (← e, ← p, q) h
+
+    pub child-off-in : (w : Refusal) → r ≡ Number.No w → after n (no w) ≡ from n (childAt u m info i) f
+    child-off-in w q = rw (← e, ← p, q)
+
+  pub part-in : (x : Span) (z : List ℕ) → z ≡ partOf s x → z ≡ partOf u x
+  part-in x z h = rw e at h
+
+module _ (m : Node) (key : Span) (x : Value) where
+  pub record-there : (v : Span) → x ≡ Value.At v → got (recordAt (record { block = m .block; key = key; value = v })) ≡ got (recordOf m key x)
+  unfolding recordOf
+  record-there v q = rw q
+
+  pub record-missing : x ≡ Value.Missing → got passOver ≡ got (recordOf m key x)
+  unfolding recordOf
+  record-missing q = rw q
+
+pub ruleset all = (lookup-laws.all, got-same, counted-same, order-below, order-inside, order-above, order-step, order-stop, order-on, order-off, node-on, node-off)
+
+pub ruleset parts = (lookup-laws.parts, order-in, order-step-in, order-stop-in, child-on-in, child-off-in, part-in)

@@ -1,0 +1,4 @@
+pub mod Laws
+pub mod Nth
+pub mod Places
+pub mod Turns

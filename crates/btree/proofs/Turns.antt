@@ -1,0 +1,121 @@
+-- The turns at the entries of a node, and what a node and a child come to.
+use Prim.Native.Nat.{ℕ, zero, suc, _+_, _-_, _≤_, _<_}
+use mathlib.Core.Path.{_≡_, refl, ap, _∙_}
+use mathlib.Core.List.{List}
+use native.Mathlib.Numerals.{sub-one}
+use native.Mathlib.Omega.{arith}
+use borrow.Author.Needs.{needs}
+use Rattle.error.specs.Answer.{ifEq}
+use Rattle.error.specs.declared.Refusal.{Refusal}
+use Rattle.error.specs.declared.Refusal.the-variants.{Corrupt}
+use Rattle.error.proofs.Laws.{at-most, above, same, other}
+use Rattle.arith.specs.Checked.{ticked}
+use Rattle.node.specs.Node.{leafBit}
+use Rattle.node.specs.declared.layout.Node.{Node}
+use Rattle.btree.specs.Entries.{itemTold, itemAt, turnTold, turnAt}
+use Rattle.btree.specs.Scan.{Run, more, end, refused, Tail, leafThen, leafFrom, act, each, node, child, walk, scanOf}
+use Rattle.btree.specs.declared.entries.Search.{Search}
+use Rattle.btree.specs.declared.entries.Place.{Place}
+use Rattle.btree.specs.declared.entries.Item.{Item}
+use Rattle.btree.specs.declared.entries.Item.the-variants as item
+use Rattle.btree.specs.declared.entries.Turn.the-variants as turn
+use Rattle.btree.specs.declared.entries.Turned.{Turned}
+
+-- a turn at an entry of a leaf
+module _ (b : List ℕ) (q : Search) (m : Node) (i s : ℕ) (k whole : Run) (p : leafFrom b q m (m .nkeys - i) i s k ≡ whole) where
+  pub leaf-done : m .nkeys ≤ i → k ≡ whole
+  unfolding leafFrom
+  leaf-done h = let n : m .nkeys - i ≡ 0 = omega arith in rw n at p
+
+  module _ (lt : i < m .nkeys) (r : Item) (t : itemTold r ≡ itemAt b q m i) where
+    goes : leafThen (itemTold r) s (leafFrom b q m (m .nkeys - (i + 1)) (i + 1) s k) ≡ whole
+    unfolding leafFrom
+    goes = let n : m .nkeys - i ≡ suc (m .nkeys - (i + 1)) = omega arith in rw t (rw n at p)
+
+    pub leaf-pass : r ≡ item.Pass → leafFrom b q m (m .nkeys - (i + 1)) (i + 1) s k ≡ whole
+    unfolding leafThen
+    leaf-pass e = rw e at goes
+
+    pub leaf-stop : r ≡ item.Stop → end s ≡ whole
+    unfolding leafThen
+    leaf-stop e = rw e at goes
+
+    pub leaf-at : (x : Place) → r ≡ item.At x → more x s (leafFrom b q m (m .nkeys - (i + 1)) (i + 1) s k) ≡ whole
+    unfolding leafThen
+    leaf-at x e = rw e at goes
+
+    pub leaf-no : (w : Refusal) → r ≡ item.No w → refused w s ≡ whole
+    unfolding leafThen
+    leaf-no w e = rw e at goes
+
+-- a turn at an entry of an index node
+module _ (f : Node → Tail → Tail) (b : List ℕ) (q : Search) (m : Node) (i : ℕ) (k : Tail) (s : ℕ) (whole : Run) (p : each f b q m (m .nkeys - i) i k s ≡ whole) where
+  pub each-done : m .nkeys ≤ i → k s ≡ whole
+  unfolding each
+  each-done h = let n : m .nkeys - i ≡ 0 = omega arith in rw n at p
+
+  module _ (lt : i < m .nkeys) (r : Turned) (t : turnTold r ≡ turnAt b q m i s) where
+    acts : act f (turnTold r) (each f b q m (m .nkeys - (i + 1)) (i + 1) k) ≡ whole
+    unfolding each
+    acts = let n : m .nkeys - i ≡ suc (m .nkeys - (i + 1)) = omega arith in rw t (rw n at p)
+
+    pub each-stop : r .turn ≡ turn.Stop → end (r .nodes) ≡ whole
+    unfolding act
+    each-stop e = rw e at acts
+
+    pub each-skip : r .turn ≡ turn.Skip → each f b q m (m .nkeys - (i + 1)) (i + 1) k (r .nodes) ≡ whole
+    unfolding act
+    each-skip e = rw e at acts
+
+    pub each-into : (c : Node) → r .turn ≡ turn.Into c → f c (each f b q m (m .nkeys - (i + 1)) (i + 1) k) (r .nodes) ≡ whole
+    unfolding act
+    each-into c e = rw e at acts
+
+    pub each-no : (w : Refusal) → r .turn ≡ turn.No w → refused w (r .nodes) ≡ whole
+    unfolding act
+    each-no w e = rw e at acts
+
+-- a node, by its flag
+module _ (f : Node → Tail → Tail) (b : List ℕ) (q : Search) (m : Node) (i : ℕ) (k : Tail) where
+  pub as-leaf : leafBit (m .flags) ≡ 1 → (λ (s : ℕ). leafFrom b q m (m .nkeys - i) i s (k s)) ≡ node f b q m i k
+  unfolding node
+  as-leaf h = same _ _ _ _ _ h refl
+
+  pub as-index : (leafBit (m .flags) ≡ 1 → ⊥) → each f b q m (m .nkeys - i) i k ≡ node f b q m i k
+  unfolding node
+  as-index h = other _ _ _ _ _ h refl
+
+  pub node-leaf : (s : ℕ) (z : Run) → leafBit (m .flags) ≡ 1 → z ≡ leafFrom b q m (m .nkeys - i) i s (k s) → z ≡ node f b q m i k s
+  node-leaf s z h e = e ∙ ap (λ (g : Tail). g s) (as-leaf h)
+
+  pub node-index : (s : ℕ) (z : Run) → (leafBit (m .flags) ≡ 1 → ⊥) → z ≡ each f b q m (m .nkeys - i) i k s → z ≡ node f b q m i k s
+  node-index s z h e = e ∙ ap (λ (g : Tail). g s) (as-index h)
+
+-- a child, by its parent's level
+module _ (b : List ℕ) (q : Search) (m : Node) (k : Tail) (s : ℕ) where
+  pub child-lowest : (level : ℕ) → level ≡ 0 → refused Corrupt s ≡ child b q level m k s
+  unfolding child
+  child-lowest level h = rw h
+
+  below : (level : ℕ) → (level ≡ 0 → ⊥) → ifEq (m .level) (level - 1) (node (child b q (level - 1)) b q m 0 k s) (refused Corrupt s) ≡ child b q level m k s
+  unfolding child
+  below zero h = absurd (h refl)
+  below (suc n) h = rw sub-one
+
+  pub child-off : (level : ℕ) → (level ≡ 0 → ⊥) → (m .level ≡ level - 1 → ⊥) → refused Corrupt s ≡ child b q level m k s
+  child-off level h d = other _ _ _ _ _ d refl ∙ below level h
+
+  pub child-on : (level : ℕ) (z : Run) → (level ≡ 0 → ⊥) → m .level ≡ level - 1 → z ≡ node (child b q (level - 1)) b q m 0 k s → z ≡ child b q level m k s
+  child-on level z h d e = (e ∙ same _ _ _ _ _ d refl) ∙ below level h
+
+-- the root, by its level
+module _ (b : List ℕ) (q : Search) (s : ℕ) where
+  pub root-low : (n : ℕ) (z : Run) → q .root .level ≤ 32 → n ≡ ticked s → z ≡ walk b q (q .root .level) (q .root) 0 end n → z ≡ scanOf b q s
+  unfolding scanOf
+  root-low n z h t e = at-most _ _ _ _ _ h (rw t at e)
+
+  pub root-high : 32 < q .root .level → refused Corrupt s ≡ scanOf b q s
+  unfolding scanOf
+  root-high h = above _ _ _ _ _ h refl
+
+pub ruleset turns = (needs, leaf-done, leaf-pass, leaf-stop, leaf-at, leaf-no, each-done, each-stop, each-skip, each-into, each-no, node-leaf, node-index, child-lowest, child-off, child-on, root-high)

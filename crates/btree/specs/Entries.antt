@@ -1,0 +1,123 @@
+-- What a scan does at one entry of a node. Document 01, btree.rs, `scan`; Apple File System Reference, "File-System Objects", j_key_t.
+use Prim.Native.Nat.{ℕ, _+_, _/_, _%_, _^_}
+use mathlib.Core.List.{List}
+use Rattle.error.specs.Answer.{Answer, got, no, _>>=_, ifLe, ifEq}
+use Rattle.bytes.specs.Number.{numberAt}
+use Rattle.bytes.specs.Part.{partOf}
+use Rattle.bytes.specs.declared.Span.{Span}
+use Rattle.arith.specs.Checked.{ticked}
+use Rattle.obj.specs.Block.{blockOf}
+use Rattle.obj.specs.declared.reader.Reader.{Reader}
+use Rattle.node.specs.Entry.{entryAt, childAt}
+use Rattle.node.specs.declared.layout.Node.{Node}
+use Rattle.node.specs.declared.table.Value.{Value}
+use Rattle.node.specs.declared.table.Value.the-variants as value
+use Rattle.lookup.specs.Counted.{Counted, after, from, onto}
+use Rattle.lookup.specs.Read.{nodeAt}
+use Rattle.lookup.specs.Map.{resolveAt}
+use Rattle.btree.specs.declared.entries.Search.{Search}
+use Rattle.btree.specs.declared.entries.Place.{Place}
+use Rattle.btree.specs.declared.entries.Order.{Order}
+use Rattle.btree.specs.declared.entries.Order.the-variants.{Below, Inside, Above}
+use Rattle.btree.specs.declared.entries.Ordered.{Ordered}
+use Rattle.btree.specs.declared.entries.Ordered.the-variants as ordered
+use Rattle.btree.specs.declared.entries.Item.{Item}
+use Rattle.btree.specs.declared.entries.Item.the-variants as item
+use Rattle.btree.specs.declared.entries.Turn.{Turn}
+use Rattle.btree.specs.declared.entries.Turn.the-variants as turn
+use Rattle.btree.specs.declared.entries.Turned.{Turned}
+
+-- the bytes of a node's block
+abbrev pub bytesOf : List ℕ → Search → Node → List ℕ
+bytesOf b q m = blockOf (q .reader) b (m .block)
+
+-- the bytes of a record's key and of its value (document 01, "What must change shape": `scan` "answers places in the image")
+unfoldable pub keyOf : Reader → List ℕ → Place → List ℕ
+keyOf r b p = partOf (blockOf r b (p .block)) (p .key)
+
+unfoldable pub valueOf : Reader → List ℕ → Place → List ℕ
+valueOf r b p = partOf (blockOf r b (p .block)) (p .value)
+
+abbrev pub orderTold : Ordered → Answer Order
+orderTold (ordered.Got o) = got o
+orderTold (ordered.No e) = no e
+
+-- a key begins with a number of 64 bits: the id in the low 60, the kind in the high 4; the id is compared first (fs.rs, `records`)
+unfoldable pub orderOf : Search → ℕ → Order
+orderOf q h =
+    ifEq (h % 2 ^ 60) (q .id)
+    (ifEq (h / 2 ^ 60) (q .kind) Inside (ifLe (h / 2 ^ 60) (q .kind) Below Above))
+    (ifLe (h % 2 ^ 60) (q .id) Below Above)
+
+unfoldable pub keyOrder : Search → List ℕ → Answer Order
+keyOrder q key = numberAt 8 key 0 >>= λ h. got (orderOf q h)
+
+-- how the i-th entry of a node stands to what is searched (btree.rs, `window`)
+unfoldable pub orderAt : List ℕ → Search → Node → ℕ → Answer Order
+orderAt b q m i = entryAt (bytesOf b q m) m (q .info) i >>= λ e. keyOrder q (partOf (bytesOf b q m) (e .key))
+
+unfoldable pub byOrder : {A : Type 0} → Order → A → A → A → A
+byOrder Below x y z = x
+byOrder Inside x y z = y
+byOrder Above x y z = z
+
+-- what an entry of a leaf gives: it is passed over, ends the scan, or is a record (btree.rs, `scan_node`)
+pub data Leaf : Type 0 where
+  passOver : Leaf
+  endScan : Leaf
+  recordAt : Place → Leaf
+
+abbrev pub itemTold : Item → Answer Leaf
+itemTold item.Pass = got passOver
+itemTold item.Stop = got endScan
+itemTold (item.At p) = got (recordAt p)
+itemTold (item.No e) = no e
+
+-- document 01, btree.rs: "Value offset 0xffff means no value; `scan` skips it"
+unfoldable pub recordOf : Node → Span → Value → Leaf
+recordOf m key (value.At v) = recordAt (record { block = m .block; key = key; value = v })
+recordOf m key value.Missing = passOver
+
+-- the i-th entry of a leaf, read with its value
+unfoldable pub itemAt : List ℕ → Search → Node → ℕ → Answer Leaf
+itemAt b q m i =
+    entryAt (bytesOf b q m) m (q .info) i >>= λ e.
+    keyOrder q (partOf (bytesOf b q m) (e .key)) >>= λ o.
+    byOrder o (got passOver) (got (recordOf m (e .key) (e .value))) (got endScan)
+
+-- what a scan does at an entry of an index node (btree.rs, `scan_node`)
+pub data Act : Type 0 where
+  stop : Act
+  skip : Act
+  into : Node → Act
+
+abbrev pub actTold : Turn → Answer Act
+actTold turn.Stop = got stop
+actTold turn.Skip = got skip
+actTold (turn.Into m) = got (into m)
+actTold (turn.No e) = no e
+
+abbrev pub turnTold : Turned → Counted Act
+turnTold t = after (t .nodes) (actTold (t .turn))
+
+-- the node of a child, s nodes having been gone through: it counts once its block has passed as a node (btree.rs, `read_child`)
+unfoldable pub childNode : List ℕ → Search → ℕ → ℕ → Counted Act
+childNode b q child s =
+    onto (resolveAt (q .reader) b (q .resolve) child s) λ p t.
+    from t (nodeAt (q .reader) b p) λ c.
+    after (ticked t) (got (into c))
+
+-- the child of the i-th entry
+unfoldable pub enterAt : List ℕ → Search → Node → ℕ → ℕ → Counted Act
+enterAt b q m i s = from s (childAt (bytesOf b q m) m (q .info) i) λ child. childNode b q child s
+
+-- an entry whose next is still below is skipped, any other's child is entered: the next is read before the child (btree.rs, `scan_node`)
+unfoldable pub followAt : List ℕ → Search → Node → ℕ → ℕ → Counted Act
+followAt b q m i s =
+    ifLe (m .nkeys) (i + 1) (enterAt b q m i s)
+    (from s (orderAt b q m (i + 1)) λ o. byOrder o (after s (got skip)) (enterAt b q m i s) (enterAt b q m i s))
+
+-- the i-th entry of an index node; one above ends the scan
+unfoldable pub turnAt : List ℕ → Search → Node → ℕ → ℕ → Counted Act
+turnAt b q m i s =
+    from s (orderAt b q m i) λ o. byOrder o (followAt b q m i s) (followAt b q m i s) (after s (got stop))

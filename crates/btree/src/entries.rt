@@ -1,0 +1,261 @@
+// What a scan does at one entry of a node.
+use arith::tick;
+use bytes::Number;
+use bytes::Span;
+use bytes::part;
+use bytes::u64_at;
+use error::Refusal;
+use lookup::Resolve;
+use lookup::read_node;
+use lookup::resolve_child;
+use node::Entered;
+use node::Info;
+use node::Node;
+use node::Parsed;
+use node::Value;
+use node::child_of;
+use node::entry;
+use obj::Reader;
+ghost use mathlib.Core.Path.{_≡_};
+ghost use Prim.Native.Nat.{_<_};
+ghost use Rattle.error.specs.Answer.{got};
+ghost use Rattle.btree.specs.Entries.{keyOf, valueOf, orderTold, keyOrder, orderOf, orderAt, itemTold, itemAt, recordOf, turnTold, childNode, enterAt, followAt, turnAt};
+
+// The records of an id and a kind in the tree below a root.
+pub struct Search {
+    pub reader: Reader,
+    pub root: Node,
+    pub info: Info,
+    pub resolve: Resolve,
+    pub id: u64,
+    pub kind: u8,
+}
+
+// A record, inside its block.
+pub struct Place {
+    pub block: u64,
+    pub key: Span,
+    pub value: Span,
+}
+
+// A record of a scan, or how the scan ended.
+pub enum Found {
+    At(Place),
+    End,
+    No(Refusal),
+}
+
+// What was found, and the nodes gone through.
+pub struct Scanned {
+    pub found: Found,
+    pub nodes: u64,
+}
+
+// How a key stands to what is searched.
+pub enum Order {
+    Below,
+    Inside,
+    Above,
+}
+
+pub enum Ordered {
+    Got(Order),
+    No(Refusal),
+}
+
+// What an entry of a leaf gives.
+pub enum Item {
+    Pass,
+    Stop,
+    At(Place),
+    No(Refusal),
+}
+
+// What to do at an entry of an index node.
+pub enum Turn {
+    Stop,
+    Skip,
+    Into(Node),
+    No(Refusal),
+}
+
+pub struct Turned {
+    pub turn: Turn,
+    pub nodes: u64,
+}
+
+// The bytes of a record's key.
+pub fn key_of(reader: Reader, image: &[u8], place: Place) -> &[u8]
+    ensures { λ r. ⌜ now r ≡ keyOf reader (now (image .entry)) place ⌝ }
+{
+    part(reader.block(image, place.block), place.key)
+}
+
+// The bytes of a record's value.
+pub fn value_of(reader: Reader, image: &[u8], place: Place) -> &[u8]
+    ensures { λ r. ⌜ now r ≡ valueOf reader (now (image .entry)) place ⌝ }
+{
+    part(reader.block(image, place.block), place.value)
+}
+
+// The id is compared before the kind.
+fn order_of(q: Search, head: u64) -> Order
+    ensures { λ r. ⌜ r ≡ orderOf q head ⌝ }
+{
+    let id = head % 1152921504606846976;
+    let kind = head / 1152921504606846976;
+    let wanted = q.kind as u64;
+    if id == q.id {
+        if kind == wanted {
+            return Order::Inside;
+        }
+        if kind <= wanted {
+            return Order::Below;
+        }
+        return Order::Above;
+    }
+    if id <= q.id {
+        return Order::Below;
+    }
+    Order::Above
+}
+
+fn key_order(q: Search, key: &[u8]) -> Ordered
+    ensures { λ r. ⌜ orderTold r ≡ keyOrder q (now (key .entry)) ⌝ }
+{
+    match u64_at(key, 0) {
+        Number::Got(head) => Ordered::Got(order_of(q, head)),
+        Number::No(e) => Ordered::No(e),
+    }
+}
+
+// How the i-th entry of a node stands to what is searched.
+fn order_at(image: &[u8], q: Search, node: Node, i: u32) -> Ordered
+    ensures { λ r. ⌜ orderTold r ≡ orderAt (now (image .entry)) q node i ⌝ }
+{
+    let b = q.reader.block(image, node.block);
+    match entry(b, node, q.info, i) {
+        Entered::Got(e) => key_order(q, part(b, e.key)),
+        Entered::No(e) => Ordered::No(e),
+    }
+}
+
+// A record of a leaf, unless it has no value.
+fn record_of(node: Node, key: Span, value: Value) -> Item
+    ensures { λ r. ⌜ itemTold r ≡ got (recordOf node key value) ⌝ }
+{
+    match value {
+        Value::At(v) => Item::At(Place {
+            block: node.block,
+            key: key,
+            value: v,
+        }),
+        Value::Missing => Item::Pass,
+    }
+}
+
+// The i-th entry of a leaf.
+pub fn item_at(image: &[u8], q: Search, node: Node, i: u32) -> Item
+    ensures { λ r. ⌜ itemTold r ≡ itemAt (now (image .entry)) q node i ⌝ }
+{
+    let b = q.reader.block(image, node.block);
+    match entry(b, node, q.info, i) {
+        Entered::Got(e) => match key_order(q, part(b, e.key)) {
+            Ordered::Got(o) => match o {
+                Order::Below => Item::Pass,
+                Order::Inside => {
+                    let value = e.value;
+                    record_of(node, e.key, value)
+                }
+                Order::Above => Item::Stop,
+            },
+            Ordered::No(e) => Item::No(e),
+        },
+        Entered::No(e) => Item::No(e),
+    }
+}
+
+// The node that a child's name leads to.
+fn read_child(image: &[u8], q: Search, child: u64, nodes: u64) -> Turned
+    ensures { λ r. ⌜ turnTold r ≡ childNode (now (image .entry)) q child nodes ⌝ }
+{
+    let resolve = q.resolve;
+    let resolved = resolve_child(q.reader, image, resolve, child, nodes);
+    let paddr = resolved.paddr;
+    match paddr {
+        Number::Got(p) => match read_node(q.reader, image, p) {
+            Parsed::Got(m) => {
+                let counted = tick(resolved.nodes);
+                Turned {
+                    turn: Turn::Into(m),
+                    nodes: counted,
+                }
+            }
+            Parsed::No(e) => Turned {
+                turn: Turn::No(e),
+                nodes: resolved.nodes,
+            },
+        },
+        Number::No(e) => Turned {
+            turn: Turn::No(e),
+            nodes: resolved.nodes,
+        },
+    }
+}
+
+// The child of the i-th entry of an index node.
+fn enter(image: &[u8], q: Search, node: Node, i: u32, nodes: u64) -> Turned
+    ensures { λ r. ⌜ turnTold r ≡ enterAt (now (image .entry)) q node i nodes ⌝ }
+{
+    match child_of(q.reader.block(image, node.block), node, q.info, i) {
+        Number::Got(child) => read_child(image, q, child, nodes),
+        Number::No(e) => Turned {
+            turn: Turn::No(e),
+            nodes: nodes,
+        },
+    }
+}
+
+// The child of an entry, unless the entry after it is still below.
+fn follow(image: &[u8], q: Search, node: Node, i: u32, nodes: u64) -> Turned
+    requires { ⌜ i < node .nkeys ⌝ }
+    ensures { λ r. ⌜ turnTold r ≡ followAt (now (image .entry)) q node i nodes ⌝ }
+{
+    if node.nkeys <= i + 1 {
+        return enter(image, q, node, i, nodes);
+    }
+    match order_at(image, q, node, i + 1) {
+        Ordered::Got(o) => match o {
+            Order::Below => Turned {
+                turn: Turn::Skip,
+                nodes: nodes,
+            },
+            Order::Inside => enter(image, q, node, i, nodes),
+            Order::Above => enter(image, q, node, i, nodes),
+        },
+        Ordered::No(e) => Turned {
+            turn: Turn::No(e),
+            nodes: nodes,
+        },
+    }
+}
+
+// The i-th entry of an index node.
+pub fn decide(image: &[u8], q: Search, node: Node, i: u32, nodes: u64) -> Turned
+    ensures { λ r. ⌜ turnTold r ≡ turnAt (now (image .entry)) q node i nodes ⌝ }
+{
+    match order_at(image, q, node, i) {
+        Ordered::Got(o) => match o {
+            Order::Below => follow(image, q, node, i, nodes),
+            Order::Inside => follow(image, q, node, i, nodes),
+            Order::Above => Turned {
+                turn: Turn::Stop,
+                nodes: nodes,
+            },
+        },
+        Ordered::No(e) => Turned {
+            turn: Turn::No(e),
+            nodes: nodes,
+        },
+    }
+}

@@ -1,0 +1,145 @@
+// The record of a scan after a number of others: a recursion on the falling level that passes on how many remain to skip.
+use crate::entries::Found;
+use crate::entries::Item;
+use crate::entries::Place;
+use crate::entries::Scanned;
+use crate::entries::Search;
+use crate::entries::Turn;
+use crate::entries::decide;
+use crate::entries::item_at;
+use arith::tick;
+use error::Refusal;
+use node::Node;
+ghost use mathlib.Core.Path.{_≡_};
+ghost use Prim.Native.Nat.{ℕ, _-_};
+ghost use Rattle.btree.specs.Scan.{Run, Tail, leafFrom, walk, child, scanOf, nth, scannedTold};
+ghost use Rattle.btree.specs.Pass.{met, passTold, foundOf};
+
+// Left: the part is passed, with as many still to skip.
+pub enum Pass {
+    At(Place),
+    Left(u64),
+    End,
+    No(Refusal),
+}
+
+pub struct Passed {
+    pub pass: Pass,
+    pub nodes: u64,
+}
+
+fn pass_of(pass: Pass, nodes: u64) -> Passed
+    ensures { λ r. ⌜ r ≡ record { pass = pass; nodes = nodes } ⌝ }
+{
+    Passed {
+        pass: pass,
+        nodes: nodes,
+    }
+}
+
+fn pass_leaf(image: &[u8], q: Search, node: Node, skip: u64) -> Pass
+    ensures { λ r. ⌜ ((s : ℕ) (k : Run) → met r s k ≡ nth skip (leafFrom (now (image .entry)) q node (node .nkeys - 0) 0 s k)) ⌝ }
+{
+    let mut left = skip;
+    let mut i: u32 = 0;
+    while i < node.nkeys {
+        match item_at(image, q, node, i) {
+            Item::Pass => {
+                i += 1;
+            }
+            Item::Stop => return Pass::End,
+            Item::At(p) => {
+                if left == 0 {
+                    return Pass::At(p);
+                }
+                left -= 1;
+                i += 1;
+            }
+            Item::No(e) => return Pass::No(e),
+        }
+    }
+    Pass::Left(left)
+}
+
+fn pass_node(image: &[u8], q: Search, level: u16, node: Node, skip: u64, nodes: u64) -> Passed
+    ensures { λ r. ⌜ ((k : Tail) → passTold r k ≡ nth skip (walk (now (image .entry)) q level node 0 k nodes)) ⌝ }
+{
+    if node.flags / 2 % 2 == 1 {
+        return Passed {
+            pass: pass_leaf(image, q, node, skip),
+            nodes: nodes,
+        };
+    }
+    let mut left = skip;
+    let mut n = nodes;
+    let mut i: u32 = 0;
+    while i < node.nkeys {
+        let t = decide(image, q, node, i, n);
+        let turn = t.turn;
+        i += 1;
+        n = t.nodes;
+        match turn {
+            Turn::Stop => return pass_of(Pass::End, n),
+            Turn::Skip => {}
+            Turn::Into(m) => {
+                let s = pass_child(image, q, level, m, left, n);
+                let pass = s.pass;
+                n = s.nodes;
+                match pass {
+                    Pass::At(_) => return s,
+                    Pass::Left(x) => {
+                        left = x;
+                    }
+                    Pass::End => return s,
+                    Pass::No(_) => return s,
+                }
+            }
+            Turn::No(e) => return pass_of(Pass::No(e), n),
+        }
+    }
+    pass_of(Pass::Left(left), n)
+}
+
+fn pass_child(image: &[u8], q: Search, level: u16, m: Node, skip: u64, nodes: u64) -> Passed
+    ensures { λ r. ⌜ ((k : Tail) → passTold r k ≡ nth skip (child (now (image .entry)) q level m k nodes)) ⌝ }
+{
+    if level == 0 {
+        return pass_of(Pass::No(Refusal::Corrupt), nodes);
+    }
+    if m.level != level - 1 {
+        return pass_of(Pass::No(Refusal::Corrupt), nodes);
+    }
+    pass_node(image, q, level - 1, m, skip, nodes)
+}
+
+// At the root nothing follows.
+fn found_of(pass: Pass) -> Found
+    ensures { λ r. ⌜ r ≡ foundOf pass ⌝ }
+{
+    match pass {
+        Pass::At(p) => Found::At(p),
+        Pass::Left(_) => Found::End,
+        Pass::End => Found::End,
+        Pass::No(e) => Found::No(e),
+    }
+}
+
+// The record that stands after `skip` others.
+pub fn scan(image: &[u8], q: Search, skip: u64, nodes: u64) -> Scanned
+    ensures { λ r. ⌜ scannedTold r ≡ nth skip (scanOf (now (image .entry)) q nodes) ⌝ }
+{
+    let root = q.root;
+    if 32 < root.level {
+        return Scanned {
+            found: Found::No(Refusal::Corrupt),
+            nodes: nodes,
+        };
+    }
+    let counted = tick(nodes);
+    let s = pass_node(image, q, root.level, root, skip, counted);
+    let pass = s.pass;
+    Scanned {
+        found: found_of(pass),
+        nodes: s.nodes,
+    }
+}
