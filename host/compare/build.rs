@@ -1,7 +1,7 @@
-//! Links the port's archive, and says whether the oracle has the published sources.
+//! Links the port's archives, and says whether the oracle has the published sources.
 
 use std::env;
-use std::path::PathBuf;
+use std::path::{Path, PathBuf};
 use std::process::exit;
 
 fn folder() -> PathBuf {
@@ -12,19 +12,26 @@ fn folder() -> PathBuf {
     }
 }
 
-fn main() {
-    println!("cargo:rerun-if-changed=build.rs");
-    let folder = folder();
-    let archive = folder.join("libleaves.a");
+fn link(folder: &Path, name: &str) {
+    let archive = folder.join(format!("lib{name}.a"));
     println!("cargo:rerun-if-changed={}", archive.display());
     if !archive.is_file() {
         eprintln!("{} is not there.", archive.display());
-        eprintln!("Run `rt staticlib leaves` in the repository, or name the archive's folder in APFS_STATICLIB_DIR.");
+        eprintln!("Run `rt staticlib {name}` in the repository, or name the archive's folder in APFS_STATICLIB_DIR.");
         exit(1);
     }
-    let folder = folder.canonicalize().expect("the archive's folder");
+    println!("cargo:rustc-link-lib=static={name}");
+}
+
+fn main() {
+    println!("cargo:rerun-if-changed=build.rs");
+    let folder = folder();
+    link(&folder, "leaves");
+    if env::var_os("CARGO_FEATURE_APFS").is_some() {
+        link(&folder, "apfs");
+    }
+    let folder = folder.canonicalize().expect("the archives' folder");
     println!("cargo:rustc-link-search=native={}", folder.display());
-    println!("cargo:rustc-link-lib=static=leaves");
 
     println!("cargo:rustc-check-cfg=cfg(oracle)");
     if env::var("DEP_WINAPFS_AVAILABLE").as_deref() == Ok("1") {

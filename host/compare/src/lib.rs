@@ -1,8 +1,11 @@
-//! The port's leaves as safe functions, and their comparison with the published Rust.
+//! The port as safe functions, and its comparison with the published Rust: leaves ([`leaf`]), and
+//! the opening of containers ([`opening`]).
 //!
 //! The comparison needs the oracle; without the published sources only [`port`], [`leaf`] and the
 //! file format of [`record`] are built.
 
+#[cfg(oracle)]
+pub mod bench;
 #[cfg(oracle)]
 pub mod cases;
 #[cfg(oracle)]
@@ -10,8 +13,14 @@ pub mod comparison;
 #[cfg(oracle)]
 pub mod expected;
 pub mod leaf;
+#[cfg(oracle)]
+pub mod opening;
 pub mod port;
 pub mod random;
+#[cfg(oracle)]
+pub mod reach;
 pub mod record;
 #[cfg(oracle)]
 pub mod sample;
+#[cfg(oracle)]
+pub mod walk;

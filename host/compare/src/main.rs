@@ -1,4 +1,4 @@
-//! Compares the port's leaves with the published Rust.
+//! Compares the port with the published Rust.
 //!
 //! In the repository, `rt staticlib leaves`; then, in host/:
 //!
@@ -7,23 +7,50 @@
 //! cargo run --release -p compare -- --seed 7        the same with other drawn cases
 //! cargo run --release -p compare -- record FILE     write a sample of the oracle's answers
 //! cargo run --release -p compare -- replay FILE     hold the port against such a sample
+//! cargo run --release -p compare -- sticks          open containers, whole and damaged
+//! cargo run --release -p compare -- sticks --seed 7 --count 20000
+//! cargo run --release -p compare -- reach           every call of the oracle on sticks, and what became of it
+//! cargo run --release -p compare -- open FILE..     open these images, and print each answer
+//! ```
+//!
+//! After `rt staticlib apfs`, with `--features apfs`, `sticks` and `open` hold the port's opening
+//! against the oracle's; without that feature they ask the oracle alone. Timings of both:
+//!
+//! ```text
+//! cargo run --profile speed --features apfs -p compare -- bench
 //! ```
 //!
 //! The exit status is 0 where all agree and every kind of case was seen, 1 where not, and 2 where
 //! the arguments are wrong, a file cannot be used, or the published sources were not there when
 //! this was built (`replay` does without them). WINAPFS_SRC and APFS_STATICLIB_DIR, read when this
-//! is built, name other folders for the sources and the port's archive.
+//! is built, name other folders for the sources and the port's archives.
+
+#[cfg_attr(not(oracle), path = "no_commands.rs")]
+mod commands;
 
 use std::process::exit;
 
 use compare::record;
 
 const DEFAULT_SEED: u64 = 20_261;
+const DEFAULT_STICKS: u64 = 4000;
+const USAGE: &str =
+    "usage: compare [record FILE | replay FILE | sticks | reach | bench | open FILE..] [--seed N] [--count K]";
 
 enum Command {
     Compare,
     Record(String),
     Replay(String),
+    Sticks,
+    Reach,
+    Bench,
+    Open(Vec<String>),
+}
+
+struct Arguments {
+    command: Command,
+    seed: u64,
+    count: u64,
 }
 
 fn stop(message: &str) -> ! {
@@ -31,57 +58,35 @@ fn stop(message: &str) -> ! {
     exit(2)
 }
 
-fn arguments() -> (Command, u64) {
-    let mut seed = DEFAULT_SEED;
+fn arguments() -> Arguments {
+    let (mut seed, mut count) = (DEFAULT_SEED, DEFAULT_STICKS);
     let mut words = Vec::new();
     let mut args = std::env::args().skip(1);
     while let Some(word) = args.next() {
-        if word == "--seed" {
+        let mut number = || {
             let n = args.next().and_then(|n| n.parse().ok());
-            seed = n.unwrap_or_else(|| stop("--seed takes a number"));
-        } else {
-            words.push(word);
+            n.unwrap_or_else(|| stop(&format!("{word} takes a number")))
+        };
+        match word.as_str() {
+            "--seed" => seed = number(),
+            "--count" => count = number(),
+            _ => words.push(word),
         }
     }
-    let command = match words.iter().map(String::as_str).collect::<Vec<_>>()[..] {
+    Arguments { command: command(&words), seed, count }
+}
+
+fn command(words: &[String]) -> Command {
+    match words.iter().map(String::as_str).collect::<Vec<_>>()[..] {
         [] => Command::Compare,
         ["record", file] => Command::Record(file.into()),
         ["replay", file] => Command::Replay(file.into()),
-        _ => stop("usage: compare [record FILE | replay FILE] [--seed N]"),
-    };
-    (command, seed)
-}
-
-#[cfg(oracle)]
-fn compare_all(seed: u64) {
-    let mut comparison = compare::comparison::Comparison::new();
-    compare::cases::all(seed, &mut |c| comparison.case(c));
-    print!("seed {seed}\n{}", comparison.report());
-    if !comparison.good() {
-        println!("compare: FAILED");
-        exit(1);
+        ["sticks"] => Command::Sticks,
+        ["reach"] => Command::Reach,
+        ["bench"] => Command::Bench,
+        ["open", _, ..] => Command::Open(words[1..].to_vec()),
+        _ => stop(USAGE),
     }
-    println!("compare: all agree");
-}
-
-#[cfg(oracle)]
-fn write_record(file: &str, seed: u64) {
-    let records = compare::sample::sample(seed);
-    let bytes = record::encode(&records);
-    if let Err(e) = std::fs::write(file, &bytes) {
-        stop(&format!("{file}: {e}"));
-    }
-    println!("{} records, {} bytes", records.len(), bytes.len());
-}
-
-#[cfg(not(oracle))]
-fn compare_all(_seed: u64) {
-    stop("built without the published sources; set WINAPFS_SRC and build again")
-}
-
-#[cfg(not(oracle))]
-fn write_record(_file: &str, seed: u64) {
-    compare_all(seed)
 }
 
 fn replay(file: &str) {
@@ -97,9 +102,14 @@ fn replay(file: &str) {
 }
 
 fn main() {
-    match arguments() {
-        (Command::Compare, seed) => compare_all(seed),
-        (Command::Record(file), seed) => write_record(&file, seed),
-        (Command::Replay(file), _) => replay(&file),
+    let Arguments { command, seed, count } = arguments();
+    match command {
+        Command::Compare => commands::compare_leaves(seed),
+        Command::Record(file) => commands::record(&file, seed),
+        Command::Replay(file) => replay(&file),
+        Command::Sticks => commands::sticks(seed, count),
+        Command::Reach => commands::reach(seed, count),
+        Command::Bench => commands::bench(),
+        Command::Open(files) => commands::open(&files),
     }
 }

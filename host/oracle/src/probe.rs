@@ -3,6 +3,7 @@
 use crate::bytes;
 use crate::error::{Error, Result};
 use crate::fs::{Extent, Inode, Volume};
+use crate::nx::Container;
 
 /// The number that document 01 gives an error's class. The other classes belong to writing.
 pub fn class(e: &Error) -> u64 {
@@ -45,4 +46,8 @@ pub fn inode(id: u64, value: &[u8]) -> Result<Inode> {
 
 pub fn extents(volume: &Volume, stream: u64) -> Result<Vec<Extent>> {
     volume.extents(stream)
+}
+
+pub fn block_count(container: &Container) -> u64 {
+    container.r.block_count
 }

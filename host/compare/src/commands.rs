@@ -1,0 +1,92 @@
+//! The commands that need the oracle.
+
+use std::path::Path;
+use std::process::exit;
+use std::sync::Arc;
+
+use compare::comparison::Comparison;
+use compare::opening::{answer, check::check, run::Run, Open};
+use compare::{bench, cases, reach, record, sample};
+
+use crate::stop;
+
+fn port() -> Option<Open<'static>> {
+    #[cfg(feature = "apfs")]
+    return Some(&compare::port::open);
+    #[cfg(not(feature = "apfs"))]
+    None
+}
+
+fn finish(name: &str, good: bool, words: &str) {
+    if !good {
+        println!("{name}: FAILED");
+        exit(1);
+    }
+    println!("{name}: {words}");
+}
+
+pub fn compare_leaves(seed: u64) {
+    let mut comparison = Comparison::new();
+    cases::all(seed, &mut |c| comparison.case(c));
+    print!("seed {seed}\n{}", comparison.report());
+    finish("compare", comparison.good(), "all agree");
+}
+
+pub fn record(file: &str, seed: u64) {
+    let records = sample::sample(seed);
+    let bytes = record::encode(&records);
+    if let Err(e) = std::fs::write(file, &bytes) {
+        stop(&format!("{file}: {e}"));
+    }
+    println!("{} records, {} bytes", records.len(), bytes.len());
+}
+
+pub fn sticks(seed: u64, count: u64) {
+    answer::silence_panics();
+    let run = Run::over(seed, count, port());
+    println!("seed {seed}, {count} sticks\nwhole   {}\ndamaged {}", run.whole, run.damaged);
+    let mut good = !run.report_failure(Path::new("target"));
+    if good {
+        for (name, kinds) in [("whole", run.whole.missing()), ("damaged", run.damaged.missing())] {
+            if !kinds.is_empty() {
+                println!("never seen of {name} sticks: {}", kinds.join(", "));
+                good = false;
+            }
+        }
+    }
+    finish("sticks", good, if port().is_some() { "all agree" } else { "the oracle alone was asked" });
+}
+
+pub fn reach(seed: u64, count: u64) {
+    answer::silence_panics();
+    print!("{}", reach::Reach::over(seed, count).report());
+}
+
+pub fn bench() {
+    answer::silence_panics();
+    print!("{}", bench::opening(port()));
+}
+
+pub fn open(files: &[String]) {
+    answer::silence_panics();
+    let mut agree = true;
+    for file in files {
+        let image = Arc::new(std::fs::read(file).unwrap_or_else(|e| stop(&format!("{file}: {e}"))));
+        let want = answer::open(&image);
+        println!("{file}\n  oracle: {want}");
+        if let Some(port) = port() {
+            println!("  port:   {}", said(port, &image));
+            agree &= check(port, &image, &want).map_err(|e| println!("  differ: {e}")).is_ok();
+        }
+    }
+    exit(if agree { 0 } else { 1 })
+}
+
+fn said(port: Open, image: &[u8]) -> String {
+    let mut buffer = [0; 4096];
+    let n = port(image, &mut buffer);
+    if n < 0 {
+        return format!("refused with {}", -n);
+    }
+    String::from_utf8_lossy(&buffer[..buffer.len().min(n as usize)]).trim_end().to_string()
+}

@@ -1,0 +1,62 @@
+//! Sticks as the oracle reads them.
+
+#![cfg(oracle)]
+
+use std::sync::Arc;
+
+use compare::opening::answer::{self, Answer};
+use compare::opening::run::Run;
+use compare::walk::{walk, Reach};
+use sticks::{Plan, Stick};
+
+const STICKS: u64 = 600;
+
+#[test]
+fn whole_sticks_hold_what_was_planned() {
+    let mut reach = Reach::default();
+    for seed in 0..STICKS {
+        let stick = Stick::from_seed(seed);
+        if stick.plan.opens() {
+            walk(&stick, &mut reach).unwrap_or_else(|e| panic!("stick {seed}: {e}"));
+        }
+    }
+    println!("{reach:?}");
+    let kinds = [reach.volumes, reach.refused, reach.files, reach.entries, reach.attributes, reach.streams];
+    assert!(kinds.iter().all(|&n| n > 10) && reach.reads > 1000 && reach.paths > 1000, "{reach:?}");
+    assert!((0..5).all(|l| reach.levels[&l] > 5), "{reach:?}");
+    assert!(reach.levels.range(12..).count() > 3 && reach.levels.contains_key(&32), "{reach:?}");
+}
+
+#[test]
+fn odd_sticks_are_refused() {
+    for seed in 0..STICKS {
+        let plan = Plan::draw(seed);
+        if !plan.opens() {
+            let odd = plan.odd;
+            let a = answer::open(&Arc::new(sticks::make(plan).image));
+            assert!(matches!(a, Answer::Refused(_)), "stick {seed}, {odd:?}: {a}");
+        }
+    }
+}
+
+#[test]
+fn every_class_is_reached() {
+    let run = Run::over(1, 400, None);
+    assert!(run.whole.missing().is_empty(), "{}", run.whole);
+    assert!(run.damaged.missing().is_empty(), "{}", run.damaged);
+    assert!(run.failure.is_none());
+}
+
+#[test]
+fn sums_are_the_oracles() {
+    let image = Stick::from_seed(11).image;
+    for b in image.chunks_exact(4096).take(60) {
+        assert_eq!(sticks::sums::checksum(b), oracle::checksum::compute(b));
+    }
+    for name in ["", "a", "Notes.txt", "READ ME"] {
+        for insensitive in [false, true] {
+            let want = oracle::name_hash::name_hash(name, insensitive);
+            assert_eq!(sticks::sums::name_hash(name.as_bytes(), insensitive), want);
+        }
+    }
+}

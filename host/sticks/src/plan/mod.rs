@@ -1,0 +1,195 @@
+//! What a stick holds, drawn from a seed.
+
+mod data;
+mod files;
+mod names;
+mod ring;
+mod shape;
+
+use crate::checkpoint::Ring;
+use crate::random::Random;
+use crate::superblock::SLOTS;
+use crate::tree::Shape;
+use crate::volume::{Lost, Volume};
+
+const LARGER_BLOCKS: [usize; 5] = [8192, 8192, 16384, 32768, 65536];
+
+/// Why a stick is not to be opened.
+#[derive(Clone, Copy, Debug, PartialEq, Eq)]
+pub enum Odd {
+    NoMagic,
+    BlockSize(u32),
+    RingTree,
+    RingPast,
+    RingZero,
+    NoCheckpoint,
+    Version1,
+    Fusion,
+    MapOutside,
+    /// The object map is said to stand in block 0, and block 0 passes as one.
+    MapAtZero,
+    /// So many bytes of block 0 alone, and a ring of none, or one that is a tree.
+    CutZero(usize),
+    /// So many bytes of the image alone.
+    Cut(usize),
+}
+
+#[derive(Clone, Debug)]
+pub struct Plan {
+    pub seed: u64,
+    pub block_size: usize,
+    /// One in so many grants of blocks leaves a gap; 0 for none.
+    pub gaps: u64,
+    pub xid: u64,
+    pub ring: Ring,
+    /// Whether the ring stands before the volumes.
+    pub ring_first: bool,
+    pub stale_zero: bool,
+    pub volumes: Vec<Volume>,
+    pub slots: Vec<u64>,
+    pub max_file_systems: u32,
+    pub map: Shape,
+    /// Blocks counted past the last one in use.
+    pub spare: u64,
+    pub counted_blocks_present: bool,
+    /// Bytes after the last block.
+    pub tail: usize,
+    pub odd: Option<Odd>,
+    pub random: Random,
+}
+
+impl Plan {
+    pub fn draw(seed: u64) -> Plan {
+        let mut r = Random::new(seed);
+        let odd = r.chance(1, 10).then(|| odd(&mut r));
+        let small = !matches!(odd, Some(Odd::CutZero(_))) && r.chance(3, 4);
+        let block_size = if small { 4096 } else { r.pick(&LARGER_BLOCKS) };
+        let xid = transaction(&mut r);
+        let volumes = volumes(block_size, &mut r);
+        let (slots, max_file_systems) = slots(&volumes, &mut r);
+        Plan {
+            seed,
+            block_size,
+            gaps: r.pick(&[0, 0, 3, 8]),
+            xid,
+            ring: ring::draw(xid, odd == Some(Odd::NoCheckpoint), &mut r),
+            ring_first: r.chance(3, 4),
+            stale_zero: r.chance(1, 2),
+            volumes,
+            slots,
+            max_file_systems,
+            map: shape::map(&mut r),
+            spare: r.pick(&[0, 0, 1, 2, 1000, 1 << 40]),
+            counted_blocks_present: r.chance(1, 2),
+            tail: r.pick(&[0, 0, 0, 1, 511, 4095]),
+            odd,
+            random: r.fork(),
+        }
+        .within_reason()
+    }
+
+    /// A container of 4,096-byte blocks that must open, with a ring full of sound checkpoints.
+    pub fn with_ring(blocks: u32, seed: u64) -> Plan {
+        let mut r = Random::new(seed);
+        let volumes = vec![volume(1026, 4096, &mut r)];
+        let xid = 100_000;
+        Plan {
+            seed,
+            block_size: 4096,
+            gaps: 0,
+            xid,
+            ring: ring::full(xid, blocks),
+            ring_first: true,
+            stale_zero: false,
+            slots: vec![1026],
+            volumes,
+            max_file_systems: 100,
+            map: shape::map(&mut r),
+            spare: 0,
+            counted_blocks_present: true,
+            tail: 0,
+            odd: None,
+            random: r,
+        }
+    }
+
+    /// Blocks that are counted and present are few.
+    fn within_reason(mut self) -> Plan {
+        if self.odd == Some(Odd::MapAtZero) {
+            // Where an object map has the type of its tree, block 0 has the block count.
+            self.spare = 0x4000_0000;
+        }
+        self.counted_blocks_present &= self.spare < 100;
+        self
+    }
+
+    /// Whether the container must open.
+    pub fn opens(&self) -> bool {
+        self.odd.is_none()
+    }
+}
+
+fn odd(r: &mut Random) -> Odd {
+    match r.below(12) {
+        0 => Odd::NoMagic,
+        1 => Odd::BlockSize(r.pick(&[0, 512, 2048, 4097, 12288, 131_072, u32::MAX])),
+        2 => Odd::RingTree,
+        3 => Odd::RingPast,
+        4 => Odd::RingZero,
+        5 => Odd::NoCheckpoint,
+        6 => Odd::Version1,
+        7 => Odd::Fusion,
+        8 => Odd::MapOutside,
+        9 => Odd::MapAtZero,
+        10 => Odd::CutZero(r.pick(&[4096, 4097, 8191])),
+        _ => Odd::Cut(r.pick(&[0, 1, 36, 4095, 4096, 5000, 8192])),
+    }
+}
+
+fn transaction(r: &mut Random) -> u64 {
+    match r.below(12) {
+        0 => r.below(4),
+        1 => u64::MAX - r.below(4),
+        2 => r.draw(),
+        _ => r.between(4, 5000),
+    }
+}
+
+fn volumes(block_size: usize, r: &mut Random) -> Vec<Volume> {
+    let first = r.between(2, 5000);
+    let count = r.pick(&[0, 1, 1, 1, 1, 1, 1, 2, 2, 3, 4]);
+    (0..count).map(|i| volume(first + 7 * i, block_size, r)).collect()
+}
+
+fn volume(oid: u64, block_size: usize, r: &mut Random) -> Volume {
+    let regular = r.chance(3, 4);
+    Volume {
+        oid,
+        contents: files::draw(block_size, regular, r),
+        first_node: r.pick(&[2, 1000, 1 << 40]),
+        tree: shape::files(r),
+        map: shape::map(r),
+        fixed: r.pick(&[(0, 0), (0, 0), (8, 92)]),
+        lost: (!regular && r.chance(1, 4))
+            .then(|| r.pick(&[Lost::Deleted, Lost::Ghost, Lost::Encrypted, Lost::Missing])),
+        muddled: !regular && r.chance(1, 6),
+        random: r.fork(),
+    }
+}
+
+/// Slots with zeros between, and how many of them the superblock counts.
+fn slots(volumes: &[Volume], r: &mut Random) -> (Vec<u64>, u32) {
+    let mut slots = Vec::new();
+    for v in volumes {
+        let zeros = r.pick(&[0, 0, 0, 1, 3, 24]);
+        slots.extend(vec![0; zeros]);
+        slots.push(v.oid);
+    }
+    let used = slots.len() as u32;
+    let max = r.pick(&[used, used + 1, SLOTS as u32 - 1, SLOTS as u32, 101, 5000, u32::MAX]).max(used);
+    if r.chance(1, 8) && (max as usize) < SLOTS {
+        slots.resize(max as usize, 0);
+        slots.push(r.draw()); // past the count
+    }
+    (slots, max)
+}

@@ -1,0 +1,235 @@
+//! What the seed decides, and that every kind of thing is drawn.
+
+use sticks::checkpoint::Fault;
+use sticks::contents::{Contents, Data, Extent, Key, Source};
+use sticks::sums::{checksum, name_hash};
+use sticks::volume::Volume;
+use sticks::{damage, damage_at, make, Aim, Plan, Stick};
+
+#[test]
+fn the_seed_decides_all() {
+    for seed in 0..40 {
+        let (one, other) = (Stick::from_seed(seed).image, Stick::from_seed(seed).image);
+        assert!(one == other, "stick {seed}");
+        assert!(damage(&one, seed) == damage(&one, seed), "damage {seed}");
+        assert!(damage_at(&one, Aim::Opening, seed) == damage_at(&one, Aim::Opening, seed), "damage {seed}");
+        assert!(one != Stick::from_seed(seed + 1).image, "stick {seed}");
+    }
+}
+
+#[test]
+fn damage_changes_most_images() {
+    let image = Stick::from_seed(1).image;
+    let changed = (0..200).filter(|&seed| damage(&image, seed) != image).count();
+    assert!(changed > 160, "{changed} of 200");
+}
+
+#[test]
+fn any_bytes_can_be_damaged() {
+    for n in [0, 1, 4095, 4096, 8192, 100_000] {
+        for seed in 0..50 {
+            damage(&vec![0xff; n], seed);
+            damage_at(&vec![0; n], Aim::Opening, seed);
+        }
+    }
+}
+
+#[test]
+fn sums_are_those_of_document_01() {
+    let mut object = [0; 32];
+    assert_eq!(checksum(&object), 0xffff_ffff_ffff_ffff);
+    object[8] = 1;
+    assert_eq!(checksum(&object), 0x0000_0006_ffff_fff8);
+    assert_eq!(name_hash(b"", false), 0x3f_ffff);
+    assert_eq!(name_hash(b"ABC", true), name_hash(b"abc", false));
+}
+
+#[test]
+fn a_ring_of_any_size_is_full() {
+    for blocks in [8, 280] {
+        let stick = make(Plan::with_ring(blocks, 1));
+        assert!(stick.plan.opens() && stick.plan.ring.checkpoints.len() == blocks as usize / 2);
+    }
+}
+
+type Kind<T> = (&'static str, fn(&T) -> bool);
+
+fn all_seen<T>(drawn: &[T], kinds: &[Kind<T>]) {
+    let missing: Vec<_> = kinds.iter().filter(|k| !drawn.iter().any(k.1)).map(|k| k.0).collect();
+    assert!(missing.is_empty(), "never drawn: {missing:?}");
+}
+
+fn plans() -> Vec<Plan> {
+    (0..600).map(Plan::draw).collect()
+}
+
+fn volumes() -> Vec<Volume> {
+    plans().into_iter().flat_map(|p| p.volumes).collect()
+}
+
+fn drawn() -> Vec<Contents> {
+    volumes().into_iter().map(|v| v.contents).collect()
+}
+
+fn wraps(p: &Plan) -> bool {
+    p.ring.places().iter().any(|(first, superblock)| superblock < first)
+}
+
+fn equal(p: &Plan) -> bool {
+    p.ring.checkpoints.iter().filter(|c| c.xid == p.xid && c.fault.is_none()).count() > 1
+}
+
+fn newer_is_broken(p: &Plan) -> bool {
+    p.ring.checkpoints.iter().any(|c| c.xid > p.xid && c.fault.is_some())
+}
+
+fn length_past_ring(p: &Plan) -> bool {
+    p.ring.checkpoints.iter().any(|c| c.fault.is_none() && c.length > p.ring.blocks)
+}
+
+#[test]
+fn every_kind_of_container_is_drawn() {
+    all_seen(
+        &plans(),
+        &[
+            ("blocks of 4096", |p| p.block_size == 4096),
+            ("blocks of 8192", |p| p.block_size == 8192),
+            ("blocks of 16384", |p| p.block_size == 16384),
+            ("blocks of 32768", |p| p.block_size == 32768),
+            ("blocks of 65536", |p| p.block_size == 65536),
+            ("a ring of 1", |p| p.ring.blocks == 1),
+            ("a ring of 40", |p| p.ring.blocks == 40),
+            ("a checkpoint across the ring's end", wraps),
+            ("equal transactions", equal),
+            ("a newer checkpoint that is broken", newer_is_broken),
+            ("a length past the ring", length_past_ring),
+            ("maps apart", |p| p.ring.checkpoints.iter().any(|c| c.apart && c.read() > 0 && c.fault.is_none())),
+            ("maps without a last one", |p| p.ring.checkpoints.iter().any(|c| c.last.is_none() && c.read() > 1)),
+            ("an index past the ring", |p| p.ring.checkpoints.iter().any(|c| c.turns > 0)),
+            ("a stale block 0", |p| p.stale_zero),
+            ("four volumes", |p| p.volumes.len() == 4),
+            ("no volume", |p| p.volumes.is_empty()),
+            ("zeros between", |p| p.slots.windows(2).any(|w| w[0] == 0 && w[1] != 0)),
+            ("more than 100 slots", |p| p.max_file_systems > 100),
+            ("the last transaction", |p| p.xid == u64::MAX),
+        ],
+    );
+}
+
+#[test]
+fn every_fault_of_a_checkpoint_is_drawn() {
+    let plans = plans();
+    let faults: Vec<Fault> = plans.iter().flat_map(|p| &p.ring.checkpoints).filter_map(|c| c.fault).collect();
+    all_seen(
+        &faults,
+        &[
+            ("checksum", |f| *f == Fault::Checksum),
+            ("magic", |f| *f == Fault::Magic),
+            ("kind", |f| *f == Fault::Kind),
+            ("a map's checksum", |f| *f == Fault::MapChecksum),
+            ("a map's kind", |f| *f == Fault::MapKind),
+            ("a map's transaction", |f| *f == Fault::MapXid),
+            ("a map's count", |f| *f == Fault::MapCount),
+            ("length", |f| *f == Fault::Length),
+            ("address", |f| *f == Fault::Address),
+        ],
+    );
+}
+
+fn extents(c: &Contents) -> impl Iterator<Item = &Extent> {
+    c.streams.iter().flat_map(|s| &s.extents)
+}
+
+fn pairs(c: &Contents) -> impl Iterator<Item = (&Extent, &Extent)> {
+    c.streams.iter().flat_map(|s| s.extents.windows(2).map(|w| (&w[0], &w[1])))
+}
+
+fn names(c: &Contents) -> impl Iterator<Item = &[u8]> {
+    c.files.iter().flat_map(|f| f.entries.iter().map(|e| &e.name[..]))
+}
+
+fn twice(c: &Contents) -> bool {
+    c.files.iter().any(|f| f.entries.iter().enumerate().any(|(i, e)| f.entries[..i].iter().any(|d| d.name == e.name)))
+}
+
+fn by_case(c: &Contents) -> bool {
+    let differ = |a: &[u8], b: &[u8]| a != b && a.eq_ignore_ascii_case(b);
+    c.files.iter().any(|f| f.entries.windows(2).any(|w| differ(&w[0].name, &w[1].name)))
+}
+
+fn hard_link(c: &Contents) -> bool {
+    let ids: Vec<u64> = c.files.iter().flat_map(|f| f.entries.iter().map(|e| e.id)).collect();
+    (1..ids.len()).any(|i| ids[..i].contains(&ids[i]))
+}
+
+fn keys(c: &Contents, key: Key) -> bool {
+    c.files.iter().any(|f| f.entries.iter().any(|e| e.key == key))
+}
+
+#[test]
+fn every_kind_of_name_is_drawn() {
+    all_seen(
+        &drawn(),
+        &[
+            ("case-sensitive", |c| !c.case_insensitive),
+            ("case-insensitive", |c| c.case_insensitive),
+            ("normalization-insensitive", |c| c.normalization_insensitive),
+            ("encrypted", |c| c.encrypted),
+            ("sealed", |c| c.sealed),
+            ("hashed keys", |c| keys(c, Key::Hashed)),
+            ("plain keys", |c| keys(c, Key::Plain)),
+            ("ill-formed names", |c| names(c).any(|n| std::str::from_utf8(n).is_err())),
+            ("empty names", |c| names(c).any(<[u8]>::is_empty)),
+            ("zero bytes inside names", |c| names(c).any(|n| n.contains(&0))),
+            ("names twice", twice),
+            ("names that differ by case", by_case),
+            ("hard links", hard_link),
+        ],
+    );
+}
+
+#[test]
+fn every_kind_of_file_is_drawn() {
+    all_seen(
+        &drawn(),
+        &[
+            ("cycles", |c| c.files.iter().any(|f| f.entries.iter().any(|e| e.id == 2))),
+            ("compressed files", |c| c.files.iter().any(|f| f.inode.is_compressed())),
+            ("negative links", |c| c.files.iter().any(|f| f.inode.links < 0)),
+            ("repeated fields", |c| c.files.iter().any(|f| f.inode.fields.windows(2).any(|w| w[0].kind == w[1].kind))),
+            ("short values", |c| c.files.iter().any(|f| f.inode.fields.is_empty() && f.inode.short > 0)),
+            ("streams", |c| c.files.iter().any(|f| f.attributes.iter().any(|a| matches!(a.data, Data::Stream { .. })))),
+            ("ghosts", |c| c.others.iter().any(|r| r.value.is_none())),
+        ],
+    );
+}
+
+#[test]
+fn every_kind_of_extent_is_drawn() {
+    all_seen(
+        &drawn(),
+        &[
+            ("holes", |c| extents(c).any(|e| matches!(e.source, Source::Hole))),
+            ("gaps", |c| pairs(c).any(|(a, b)| a.logical + 1 < b.logical && a.length == 0)),
+            ("extents of no length", |c| extents(c).any(|e| e.length == 0)),
+            ("descending extents", |c| pairs(c).any(|(a, b)| a.logical > b.logical)),
+            ("extents outside", |c| extents(c).any(|e| matches!(e.source, Source::Block(b) if b > 1 << 30))),
+        ],
+    );
+}
+
+#[test]
+fn every_kind_of_tree_is_drawn() {
+    all_seen(
+        &volumes(),
+        &[
+            ("a lost node", |v| v.lost.is_some()),
+            ("records out of order", |v| v.muddled),
+            ("nodes of one size", |v| v.fixed.0 > 0),
+            ("a high floor", |v| v.tree.floor > 0),
+            ("high leaves", |v| v.tree.high_leaves),
+            ("index nodes at level 0", |v| v.tree.hollow && v.tree.floor == 0),
+            ("many levels", |v| v.tree.extra > 20),
+        ],
+    );
+}
