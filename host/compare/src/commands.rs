@@ -6,6 +6,7 @@ use std::sync::Arc;
 
 use compare::comparison::Comparison;
 use compare::opening::{answer, check::check, run::Run, Open};
+use compare::volumes::Volumes;
 use compare::{bench, cases, reach, record, sample};
 
 use crate::stop;
@@ -55,6 +56,24 @@ pub fn sticks(seed: u64, count: u64) {
         }
     }
     finish("sticks", good, if port().is_some() { "all agree" } else { "the oracle alone was asked" });
+}
+
+pub fn volumes(seed: u64, count: u64) {
+    answer::silence_panics();
+    let run = Volumes::over(seed, count);
+    println!("seed {seed}, {count} sticks");
+    for (answer, n) in &run.seen {
+        println!("{} {n}", if *answer == 0 { "opened".into() } else { format!("refused with {answer}") });
+    }
+    println!("overflow, outside the domain {}", run.overflow);
+    let missing: Vec<_> = (0..5).filter(|n| !run.seen.contains_key(n)).collect();
+    if !missing.is_empty() {
+        println!("never seen: {missing:?}");
+    }
+    if let Some(e) = &run.failure {
+        println!("{e}");
+    }
+    finish("volumes", run.failure.is_none() && missing.is_empty(), "all agree");
 }
 
 pub fn reach(seed: u64, count: u64) {

@@ -1,5 +1,5 @@
-//! The port as safe functions, and its comparison with the published Rust: leaves ([`leaf`]), and
-//! the opening of containers ([`opening`]).
+//! The port as safe functions, and its comparison with the published Rust: leaves ([`leaf`]), the
+//! opening of containers ([`opening`]) and of volumes ([`volumes`]).
 //!
 //! The comparison needs the oracle; without the published sources only [`port`], [`leaf`] and the
 //! file format of [`record`] are built.
@@ -22,5 +22,7 @@ pub mod reach;
 pub mod record;
 #[cfg(oracle)]
 pub mod sample;
+#[cfg(oracle)]
+pub mod volumes;
 #[cfg(oracle)]
 pub mod walk;

@@ -9,6 +9,7 @@
 //! cargo run --release -p compare -- replay FILE     hold the port against such a sample
 //! cargo run --release -p compare -- sticks          open containers, whole and damaged
 //! cargo run --release -p compare -- sticks --seed 7 --count 20000
+//! cargo run --release -p compare -- volumes         open their volumes
 //! cargo run --release -p compare -- reach           every call of the oracle on sticks, and what became of it
 //! cargo run --release -p compare -- open FILE..     open these images, and print each answer
 //! ```
@@ -35,13 +36,14 @@ use compare::record;
 const DEFAULT_SEED: u64 = 20_261;
 const DEFAULT_STICKS: u64 = 4000;
 const USAGE: &str =
-    "usage: compare [record FILE | replay FILE | sticks | reach | bench | open FILE..] [--seed N] [--count K]";
+    "usage: compare [record FILE | replay FILE | sticks | volumes | reach | bench | open FILE..] [--seed N] [--count K]";
 
 enum Command {
     Compare,
     Record(String),
     Replay(String),
     Sticks,
+    Volumes,
     Reach,
     Bench,
     Open(Vec<String>),
@@ -82,6 +84,7 @@ fn command(words: &[String]) -> Command {
         ["record", file] => Command::Record(file.into()),
         ["replay", file] => Command::Replay(file.into()),
         ["sticks"] => Command::Sticks,
+        ["volumes"] => Command::Volumes,
         ["reach"] => Command::Reach,
         ["bench"] => Command::Bench,
         ["open", _, ..] => Command::Open(words[1..].to_vec()),
@@ -108,6 +111,7 @@ fn main() {
         Command::Record(file) => commands::record(&file, seed),
         Command::Replay(file) => replay(&file),
         Command::Sticks => commands::sticks(seed, count),
+        Command::Volumes => commands::volumes(seed, count),
         Command::Reach => commands::reach(seed, count),
         Command::Bench => commands::bench(),
         Command::Open(files) => commands::open(&files),

@@ -16,6 +16,10 @@ pub fn sticks(_seed: u64, _count: u64) {
     none()
 }
 
+pub fn volumes(_seed: u64, _count: u64) {
+    none()
+}
+
 pub fn reach(_seed: u64, _count: u64) {
     none()
 }

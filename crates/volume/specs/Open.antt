@@ -1,0 +1,61 @@
+-- Opening a volume. Document 01, "A volume is tested for encryption, then sealing (both 3), then its maps and root"; fs.rs, `Volume::open`.
+use Prim.Native.Nat.{ℕ, _/_, _%_}
+use mathlib.Core.List.{List}
+use Rattle.error.specs.Answer.{Answer, got, no, ifEq}
+use Rattle.error.specs.declared.Refusal.the-variants.{Unsupported}
+use Rattle.arith.specs.Checked.{ticked}
+use Rattle.obj.specs.Block.{blockOf}
+use Rattle.obj.specs.declared.reader.Reader.{Reader}
+use Rattle.node.specs.Node.{infoOf}
+use Rattle.node.specs.declared.layout.Node.{Node}
+use Rattle.lookup.specs.Counted.{Counted, after, from, onto}
+use Rattle.lookup.specs.Read.{nodeAt}
+use Rattle.lookup.specs.Map.{resolveAt}
+use Rattle.lookup.specs.declared.map.Map.{Map}
+use Rattle.lookup.specs.declared.map.Resolve.the-variants.{Mapped}
+use Rattle.omap.specs.Load.{mapAt}
+use Rattle.nx.specs.Open.{openAt}
+use Rattle.nx.specs.Volume.{volumeSuperblock}
+use Rattle.nx.specs.declared.container.Container.{Container}
+use Rattle.nx.specs.declared.volume.VolumeSuperblock.{VolumeSuperblock}
+use Rattle.volume.specs.declared.Volume.{Volume}
+use Rattle.volume.specs.declared.VolumeOpening.{VolumeOpening}
+use Rattle.volume.specs.declared.VolumeOpening.the-variants.{Got, No}
+use Rattle.volume.specs.declared.VolumeOpened.{VolumeOpened}
+
+abbrev pub opening : VolumeOpening → Answer Volume
+opening (Got v) = got v
+opening (No e) = no e
+
+abbrev pub openTold : VolumeOpened → Counted Volume
+openTold r = after (r .nodes) (opening (r .volume))
+
+unfoldable pub rootedOf : List ℕ → Reader → VolumeSuperblock → Map → Node → ℕ → Counted Volume
+rootedOf image r sb m root s =
+    from s (infoOf root (blockOf r image (root .block))) λ info.
+    after s (got (record { reader = r; sb = sb; map = m; root = root; info = info }))
+
+-- the root counts once it has passed as a node
+unfoldable pub treeOf : List ℕ → Reader → VolumeSuperblock → Map → ℕ → ℕ → Counted Volume
+treeOf image r sb m p s = from s (nodeAt r image p) λ root. rootedOf image r sb m root (ticked s)
+
+-- the root through the volume's own map; a mapping with flag 0x4 is 3
+unfoldable pub mappedOf : List ℕ → Reader → VolumeSuperblock → Map → ℕ → Counted Volume
+mappedOf image r sb m s = onto (resolveAt r image (Mapped m) (sb .«root_tree_oid») s) λ p t. treeOf image r sb m p t
+
+unfoldable pub readable : List ℕ → Reader → VolumeSuperblock → ℕ → ℕ → Counted Volume
+readable image r sb xid s = onto (mapAt r image (sb .«omap_oid») xid s) λ m t. mappedOf image r sb m t
+
+-- APFS_FS_UNENCRYPTED 0x1 of the flags; APFS_INCOMPAT_SEALED_VOLUME 0x20
+unfoldable pub volumeOf : List ℕ → Reader → VolumeSuperblock → ℕ → ℕ → Counted Volume
+volumeOf image r sb xid s =
+    ifEq (sb .«fs_flags» % 2) 0 (after s (no Unsupported))
+    (ifEq (sb .incompat / 32 % 2) 1 (after s (no Unsupported)) (readable image r sb xid s))
+
+-- the volume at an index, s nodes having been gone through before
+unfoldable pub volumeOpen : List ℕ → Container → ℕ → ℕ → Counted Volume
+volumeOpen image c index s = onto (volumeSuperblock image c index s) λ sb t. volumeOf image (c .reader) sb (c .sb .xid) t
+
+-- the volume at an index of an image: its container opens first
+unfoldable pub volumeAt : List ℕ → ℕ → Counted Volume
+volumeAt image index = onto (openAt image) λ c s. volumeOpen image c index s

@@ -1,0 +1,67 @@
+//! Opening volumes: each slot of sticks drawn from a seed, whole and damaged, and places past the last slot.
+
+use std::collections::BTreeMap;
+use std::sync::Arc;
+
+use oracle::nx::Container;
+use oracle::probe;
+use sticks::{damage, Stick};
+
+use crate::opening::answer::{self, caught, Answer};
+use crate::opening::outside::outside;
+use crate::opening::run::stick_seed;
+use crate::port;
+
+/// How often each stick is damaged.
+const DAMAGES: u64 = 4;
+
+#[derive(Default)]
+pub struct Volumes {
+    /// By what the oracle answers: 0, or the refusal's number.
+    pub seen: BTreeMap<u64, u64>,
+    pub overflow: u64,
+    pub failure: Option<String>,
+}
+
+impl Volumes {
+    /// Stops at the first failure.
+    pub fn over(seed: u64, count: u64) -> Volumes {
+        let mut volumes = Volumes::default();
+        for i in 0..count {
+            let seed = stick_seed(seed, i);
+            let image = Stick::from_seed(seed).image;
+            for k in 0..=DAMAGES {
+                let b = if k == 0 { image.clone() } else { damage(&image, seed.wrapping_mul(DAMAGES).wrapping_add(k)) };
+                if let Err(e) = volumes.stick(Arc::new(b)) {
+                    volumes.failure = Some(format!("stick {seed}, damage {k}: {e}"));
+                    return volumes;
+                }
+            }
+        }
+        volumes
+    }
+
+    fn stick(&mut self, image: Arc<Vec<u8>>) -> Result<(), String> {
+        if outside(&image).is_some() {
+            return Ok(());
+        }
+        let Ok(Ok(c)) = caught(|| answer::container(&image)) else { return Ok(()) };
+        let slots = c.sb.fs_oids.len() as u64;
+        (0..=slots).chain([u64::MAX]).try_for_each(|i| self.volume(&image, &c, i))
+    }
+
+    fn volume(&mut self, image: &[u8], c: &Container, i: u64) -> Result<(), String> {
+        let want = match caught(|| c.volume(i as usize).map(|_| ())) {
+            Ok(Ok(())) => 0,
+            Ok(Err(e)) => probe::class(&e),
+            Err(Answer::Overflow) => {
+                self.overflow += 1;
+                return Ok(());
+            }
+            Err(other) => return Err(format!("volume {i}: {other}")),
+        };
+        *self.seen.entry(want).or_default() += 1;
+        let got = port::volume_refused(image, i);
+        if got == want { Ok(()) } else { Err(format!("volume {i}: the oracle answers {want}, the port {got}")) }
+    }
+}
