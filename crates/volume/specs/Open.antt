@@ -40,22 +40,22 @@ unfoldable pub treeOf : List ℕ → Reader → VolumeSuperblock → Map → ℕ
 treeOf image r sb m p s = from s (nodeAt r image p) λ root. rootedOf image r sb m root (ticked s)
 
 -- the root through the volume's own map; a mapping with flag 0x4 is 3
-unfoldable pub mappedOf : List ℕ → Reader → VolumeSuperblock → Map → ℕ → Counted Volume
-mappedOf image r sb m s = onto (resolveAt r image (Mapped m) (sb .«root_tree_oid») s) λ p t. treeOf image r sb m p t
+unfoldable pub throughMap : List ℕ → Reader → VolumeSuperblock → Map → ℕ → Counted Volume
+throughMap image r sb m s = onto (resolveAt r image (Mapped m) (sb .«root_tree_oid») s) λ p t. treeOf image r sb m p t
 
 unfoldable pub readable : List ℕ → Reader → VolumeSuperblock → ℕ → ℕ → Counted Volume
-readable image r sb xid s = onto (mapAt r image (sb .«omap_oid») xid s) λ m t. mappedOf image r sb m t
+readable image r sb xid s = onto (mapAt r image (sb .«omap_oid») xid s) λ m t. throughMap image r sb m t
 
 -- APFS_FS_UNENCRYPTED 0x1 of the flags; APFS_INCOMPAT_SEALED_VOLUME 0x20
-unfoldable pub volumeOf : List ℕ → Reader → VolumeSuperblock → ℕ → ℕ → Counted Volume
-volumeOf image r sb xid s =
+unfoldable pub testedOf : List ℕ → Reader → VolumeSuperblock → ℕ → ℕ → Counted Volume
+testedOf image r sb xid s =
     ifEq (sb .«fs_flags» % 2) 0 (after s (no Unsupported))
     (ifEq (sb .incompat / 32 % 2) 1 (after s (no Unsupported)) (readable image r sb xid s))
 
 -- the volume at an index, s nodes having been gone through before
 unfoldable pub volumeOpen : List ℕ → Container → ℕ → ℕ → Counted Volume
-volumeOpen image c index s = onto (volumeSuperblock image c index s) λ sb t. volumeOf image (c .reader) sb (c .sb .xid) t
+volumeOpen image c index s = onto (volumeSuperblock image c index s) λ sb t. testedOf image (c .reader) sb (c .sb .xid) t
 
 -- the volume at an index of an image: its container opens first
-unfoldable pub volumeAt : List ℕ → ℕ → Counted Volume
-volumeAt image index = onto (openAt image) λ c s. volumeOpen image c index s
+unfoldable pub volumeOfImage : List ℕ → ℕ → Counted Volume
+volumeOfImage image index = onto (openAt image) λ c s. volumeOpen image c index s

@@ -19,7 +19,7 @@ use nx::volume_superblock;
 use obj::Reader;
 use omap::Loading;
 ghost use mathlib.Core.Path.{_≡_};
-ghost use Rattle.volume.specs.Open.{openTold, rootedOf, treeOf, mappedOf, readable, volumeOpen, volumeOf, volumeAt};
+ghost use Rattle.volume.specs.Open.{openTold, rootedOf, treeOf, throughMap, readable, volumeOpen, testedOf, volumeOfImage};
 
 pub struct Volume {
     pub reader: Reader,
@@ -96,7 +96,7 @@ fn with_map(
     map: Map,
     nodes: u64,
 ) -> VolumeOpened
-    ensures { λ r. ⌜ openTold r ≡ mappedOf (now (image .entry)) reader sb map nodes ⌝ }
+    ensures { λ r. ⌜ openTold r ≡ throughMap (now (image .entry)) reader sb map nodes ⌝ }
 {
     let found = resolve_child(reader, image, Resolve::Mapped(map), sb.root_tree_oid, nodes);
     let paddr = found.paddr;
@@ -131,7 +131,7 @@ fn readable_of(
 
 // Encrypted and sealed volumes are refused.
 fn open_of(image: &[u8], reader: Reader, sb: VolumeSuperblock, xid: u64, nodes: u64) -> VolumeOpened
-    ensures { λ r. ⌜ openTold r ≡ volumeOf (now (image .entry)) reader sb xid nodes ⌝ }
+    ensures { λ r. ⌜ openTold r ≡ testedOf (now (image .entry)) reader sb xid nodes ⌝ }
 {
     if sb.fs_flags % 2 == 0 {
         return VolumeOpened {
@@ -169,7 +169,7 @@ pub fn open_volume(image: &[u8], c: Container, index: u64, nodes: u64) -> Volume
 
 // The volume at an index of an image.
 pub fn open_at(image: &[u8], index: u64) -> VolumeOpened
-    ensures { λ r. ⌜ openTold r ≡ volumeAt (now (image .entry)) index ⌝ }
+    ensures { λ r. ⌜ openTold r ≡ volumeOfImage (now (image .entry)) index ⌝ }
 {
     let opened = nx::open(image);
     let container = opened.container;

@@ -1,11 +1,11 @@
 use borrow.Author.Needs.{needs}
-use Rattle.volume.specs.Open.{volumeAt}
+use Rattle.volume.specs.Open.{volumeOfImage}
 use Rattle.volume.proofs.Laws.{all}
 use Rattle.volume.proofs.open_at.Statement.{statement}
 use Rattle.volume.proofs.open_at.Tie as tie
 
 pub open-at-spec : {M : Type 1} → statement M
-unfolding volumeAt
+unfolding volumeOfImage
 open-at-spec =
     tie.close
     (tie.spec

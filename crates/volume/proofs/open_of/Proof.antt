@@ -1,11 +1,11 @@
 use borrow.Author.Needs.{needs}
-use Rattle.volume.specs.Open.{volumeOf}
+use Rattle.volume.specs.Open.{testedOf}
 use Rattle.volume.proofs.Laws.{all}
 use Rattle.volume.proofs.open_of.Statement.{statement}
 use Rattle.volume.proofs.open_of.Tie as tie
 
 pub open-of-spec : {M : Type 1} → statement M
-unfolding volumeOf
+unfolding testedOf
 open-of-spec =
     tie.close
     (tie.spec

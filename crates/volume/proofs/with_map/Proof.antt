@@ -1,11 +1,11 @@
 use borrow.Author.Needs.{needs}
-use Rattle.volume.specs.Open.{mappedOf}
+use Rattle.volume.specs.Open.{throughMap}
 use Rattle.volume.proofs.Laws.{all}
 use Rattle.volume.proofs.with_map.Statement.{statement}
 use Rattle.volume.proofs.with_map.Tie as tie
 
 pub with-map-spec : {M : Type 1} → statement M
-unfolding mappedOf
+unfolding throughMap
 with-map-spec =
     tie.close
     (tie.spec
