@@ -1,0 +1,26 @@
+use borrow.Author.Needs.{needs}
+use Rattle.records.specs.Attribute.{attributeValue}
+use Rattle.records.proofs.Laws.{all}
+use Rattle.records.proofs.attribute.attribute_in.Statement.{statement}
+use Rattle.records.proofs.attribute.attribute_in.Tie as tie
+
+pub attribute-in-spec : {M : Type 1} → statement M
+unfolding attributeValue
+attribute-in-spec =
+    tie.close
+    (tie.spec
+    (λ c κs. search needs)
+    (λ c. search needs)
+    (λ c. search needs)
+    (λ c. search all)
+    (λ c κs. search needs)
+    (λ c. search needs)
+    (λ c. search needs)
+    (λ c. search all)
+    (λ c κs. search needs)
+    (λ c. search needs)
+    (λ c. search all)
+    (λ c κs. search needs)
+    (λ c. search needs)
+    (λ c. search all)
+    (λ c. search all))

@@ -1,0 +1,65 @@
+-- Extended attributes. Apple File System Reference, "Extended Attributes", j_xattr_key_t, j_xattr_val_t and j_xattr_dstream_t; document 01,
+-- "Records": "Attribute flag 0x1 means a stream of object id and size, else the bytes follow"; the order of reading is that of fs.rs, `xattrs`.
+use Prim.Native.Nat.{ℕ, _%_}
+use mathlib.Core.List.{List}
+use lib.ListN.{length}
+use Rattle.error.specs.Answer.{Answer, got, no, _>>=_, ifEq}
+use Rattle.error.specs.declared.Refusal.the-variants.{Corrupt}
+use Rattle.bytes.specs.Number.{numberAt}
+use Rattle.bytes.specs.Part.{partOf, spanAt, upToZero}
+use Rattle.bytes.specs.declared.Span.{Span}
+use Rattle.obj.specs.declared.reader.Reader.{Reader}
+use Rattle.btree.specs.Entries.{keyOf, valueOf}
+use Rattle.btree.specs.declared.entries.Place.{Place}
+use Rattle.records.specs.declared.attribute.Attribute.{Attribute}
+use Rattle.records.specs.declared.attribute.AttributeData.{AttributeData}
+use Rattle.records.specs.declared.attribute.AttributeData.the-variants.{Embedded, Stream}
+use Rattle.records.specs.declared.attribute.AttributeRead.{AttributeRead}
+use Rattle.records.specs.declared.attribute.AttributeRead.the-variants as read
+use Rattle.records.specs.declared.attribute.DataRead.{DataRead}
+use Rattle.records.specs.declared.attribute.DataRead.the-variants as contents
+
+abbrev pub attributeTold : AttributeRead → Answer Attribute
+attributeTold (read.Got a) = got a
+attributeTold (read.No e) = no e
+
+abbrev pub dataTold : DataRead → Answer AttributeData
+dataTold (contents.Got d) = got d
+dataTold (contents.No e) = no e
+
+-- xattr_obj_id, and the size that its dstream begins with
+unfoldable pub streamIn : List ℕ → Answer AttributeData
+streamIn b =
+    numberAt 8 b 0 >>= λ object.
+    numberAt 8 b 8 >>= λ size.
+    got (Stream (record { object = object; size = size }))
+
+-- xdata_len and xdata
+unfoldable pub dataIn : List ℕ → ℕ → Answer AttributeData
+dataIn value flags =
+    numberAt 2 value 2 >>= λ n.
+    spanAt Corrupt (length value) 4 n >>= λ s.
+    ifEq (flags % 2) 1 (streamIn (partOf value s)) (got (Embedded s))
+
+unfoldable pub withName : Place → List ℕ → ℕ → ℕ → AttributeData → Answer Attribute
+withName p key n flags d =
+    spanAt Corrupt (length key) 10 n >>= λ name.
+    got (record { place = p; name = name; flags = flags; contents = d })
+
+-- name_len, flags, the contents, and the name last
+unfoldable pub attributeValue : Place → List ℕ → List ℕ → Answer Attribute
+attributeValue p key value =
+    numberAt 2 key 8 >>= λ n.
+    numberAt 2 value 0 >>= λ flags.
+    dataIn value flags >>= λ d.
+    withName p key n flags d
+
+unfoldable pub attributeAt : Reader → List ℕ → Place → Answer Attribute
+attributeAt r b p = attributeValue p (keyOf r b p) (valueOf r b p)
+
+-- "a name comes back as the part of the image that holds it", "up to the first zero byte"
+unfoldable pub attributeName : Reader → List ℕ → Attribute → List ℕ
+attributeName r b a = upToZero (partOf (keyOf r b (a .place)) (a .name))
+
+unfoldable pub attributeBytes : Reader → List ℕ → Place → Span → List ℕ
+attributeBytes r b p s = partOf (valueOf r b p) s

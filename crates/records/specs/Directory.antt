@@ -1,0 +1,46 @@
+-- Directory entries. Apple File System Reference, "File-System Objects", j_drec_key_t, j_drec_hashed_key_t and j_drec_val_t; document 01, "Records".
+use Prim.Native.Nat.{ℕ, _+_, _-_, _%_}
+use mathlib.Core.List.{List}
+use lib.ListN.{length}
+use Rattle.error.specs.Answer.{Answer, got, no, _>>=_, ifEq}
+use Rattle.error.specs.declared.Refusal.the-variants.{Corrupt}
+use Rattle.bytes.specs.Number.{numberAt}
+use Rattle.bytes.specs.Part.{partOf, upToZero}
+use Rattle.bytes.specs.declared.Span.{Span}
+use Rattle.obj.specs.declared.reader.Reader.{Reader}
+use Rattle.btree.specs.Entries.{keyOf, valueOf}
+use Rattle.btree.specs.declared.entries.Place.{Place}
+use Rattle.records.specs.declared.directory.Entry.{Entry}
+use Rattle.records.specs.declared.directory.EntryRead.{EntryRead}
+use Rattle.records.specs.declared.directory.EntryRead.the-variants.{Got, No}
+
+abbrev pub entryTold : EntryRead → Answer Entry
+entryTold (Got e) = got e
+entryTold (No e) = no e
+
+-- the bytes of a key from a place on
+abbrev pub restFrom : List ℕ → ℕ → Span
+restFrom key n = record { start = n; len = length key - n }
+
+-- "Directory keys under 12 bytes are 2; others are told by length: 12 + (low 10 bits of the 32-bit number at 8), else 10 + (16 bits at 8), else 2"
+unfoldable pub nameIn : List ℕ → Answer Span
+nameIn key =
+    numberAt 4 key 8 >>= λ h.
+    ifEq (length key) (12 + h % 1024) (got (restFrom key 12))
+    (numberAt 2 key 8 >>= λ n. ifEq (length key) (10 + n) (got (restFrom key 10)) (no Corrupt))
+
+-- file_id, date_added, and the low 4 bits of flags (DREC_TYPE_MASK)
+unfoldable pub entryValue : Place → Span → List ℕ → Answer Entry
+entryValue p name value =
+    numberAt 8 value 0 >>= λ id.
+    numberAt 8 value 8 >>= λ date.
+    numberAt 2 value 16 >>= λ flags.
+    got (record { place = p; name = name; id = id; date = date; kind = flags % 16 })
+
+-- the name before the value (fs.rs, `read_dir`)
+unfoldable pub entryAt : Reader → List ℕ → Place → Answer Entry
+entryAt r b p = nameIn (keyOf r b p) >>= λ name. entryValue p name (valueOf r b p)
+
+-- "a name comes back as the part of the image that holds it", "up to the first zero byte"
+unfoldable pub entryName : Reader → List ℕ → Entry → List ℕ
+entryName r b e = upToZero (partOf (keyOf r b (e .place)) (e .name))

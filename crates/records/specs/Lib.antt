@@ -1,0 +1,5 @@
+pub mod Directory
+pub mod Extent
+pub mod Attribute
+pub mod Fields
+pub mod Inode

@@ -1,0 +1,109 @@
+// A directory entry (`j_drec_key_t` or `j_drec_hashed_key_t`, and `j_drec_val_t`).
+use btree::Place;
+use btree::key_of;
+use btree::value_of;
+use bytes::Number;
+use bytes::Sliced;
+use bytes::Span;
+use bytes::cstr;
+use bytes::part;
+use bytes::u16_at;
+use bytes::u32_at;
+use bytes::u64_at;
+use error::Refusal;
+use obj::Reader;
+ghost use mathlib.Core.Path.{_≡_};
+ghost use Prim.Native.Nat.{_+_};
+ghost use Rattle.bytes.specs.Part.{sliced};
+ghost use Rattle.records.specs.Directory.{entryTold, nameIn, entryValue, entryAt, entryName};
+
+// The name is a part of the record's key.
+pub struct Entry {
+    pub place: Place,
+    pub name: Span,
+    pub id: u64,
+    pub date: u64,
+    pub kind: u16,
+}
+
+pub enum EntryRead {
+    Got(Entry),
+    No(Refusal),
+}
+
+// How long a plain key is, with a name of n bytes.
+fn plain_length(n: u16) -> u64
+    ensures { λ r. ⌜ r ≡ 10 + n ⌝ }
+{
+    10 + n as u64
+}
+
+// Where the name lies: the key's two forms are told apart by its length.
+fn name_in(key: &[u8]) -> Sliced
+    ensures { λ r. ⌜ sliced r ≡ nameIn (now (key .entry)) ⌝ }
+{
+    let hashed = match u32_at(key, 8) {
+        Number::Got(x) => x % 1024,
+        Number::No(e) => return Sliced::No(e),
+    };
+    if key.len() as u64 == 12 + hashed {
+        return Sliced::Got(Span {
+            start: 12,
+            len: key.len() - 12,
+        });
+    }
+    let plain = match u16_at(key, 8) {
+        Number::Got(x) => x,
+        Number::No(e) => return Sliced::No(e),
+    };
+    if key.len() as u64 == plain_length(plain as u16) {
+        return Sliced::Got(Span {
+            start: 10,
+            len: key.len() - 10,
+        });
+    }
+    Sliced::No(Refusal::Corrupt)
+}
+
+fn value_in(place: Place, name: Span, value: &[u8]) -> EntryRead
+    ensures { λ r. ⌜ entryTold r ≡ entryValue place name (now (value .entry)) ⌝ }
+{
+    let id = match u64_at(value, 0) {
+        Number::Got(x) => x,
+        Number::No(e) => return EntryRead::No(e),
+    };
+    let date = match u64_at(value, 8) {
+        Number::Got(x) => x,
+        Number::No(e) => return EntryRead::No(e),
+    };
+    let flags = match u16_at(value, 16) {
+        Number::Got(x) => x,
+        Number::No(e) => return EntryRead::No(e),
+    };
+    EntryRead::Got(Entry {
+        place: place,
+        name: name,
+        id: id,
+        date: date,
+        kind: (flags % 16) as u16,
+    })
+}
+
+// The entry of a record.
+pub fn entry_at(reader: Reader, image: &[u8], place: Place) -> EntryRead
+    ensures { λ r. ⌜ entryTold r ≡ entryAt reader (now (image .entry)) place ⌝ }
+{
+    match name_in(key_of(reader, image, place)) {
+        Sliced::Got(name) => value_in(place, name, value_of(reader, image, place)),
+        Sliced::No(e) => EntryRead::No(e),
+    }
+}
+
+// The bytes of an entry's name, up to the first zero byte.
+pub fn entry_name(reader: Reader, image: &[u8], e: Entry) -> &[u8]
+    ensures { λ r. ⌜ now r ≡ entryName reader (now (image .entry)) e ⌝ }
+{
+    let place = e.place;
+    let name = e.name;
+    cstr(part(key_of(reader, image, place), name))
+}

@@ -1,0 +1,51 @@
+// A file extent (`j_file_extent_key_t` and `j_file_extent_val_t`).
+use btree::Place;
+use btree::key_of;
+use btree::value_of;
+use bytes::Number;
+use bytes::u64_at;
+use error::Refusal;
+use obj::Reader;
+ghost use mathlib.Core.Path.{_≡_};
+ghost use Rattle.records.specs.Extent.{extentTold, extentIn, extentAt};
+
+// `len` bytes of a file from `logical` on, stored from block `phys` on; block 0 means a hole.
+pub struct Extent {
+    pub logical: u64,
+    pub len: u64,
+    pub phys: u64,
+}
+
+pub enum ExtentRead {
+    Got(Extent),
+    No(Refusal),
+}
+
+fn extent_in(key: &[u8], value: &[u8]) -> ExtentRead
+    ensures { λ r. ⌜ extentTold r ≡ extentIn (now (key .entry)) (now (value .entry)) ⌝ }
+{
+    let logical = match u64_at(key, 8) {
+        Number::Got(x) => x,
+        Number::No(e) => return ExtentRead::No(e),
+    };
+    let flags = match u64_at(value, 0) {
+        Number::Got(x) => x,
+        Number::No(e) => return ExtentRead::No(e),
+    };
+    let phys = match u64_at(value, 8) {
+        Number::Got(x) => x,
+        Number::No(e) => return ExtentRead::No(e),
+    };
+    ExtentRead::Got(Extent {
+        logical: logical,
+        len: flags % 72057594037927936,
+        phys: phys,
+    })
+}
+
+// The extent of a record.
+pub fn extent_at(reader: Reader, image: &[u8], place: Place) -> ExtentRead
+    ensures { λ r. ⌜ extentTold r ≡ extentAt reader (now (image .entry)) place ⌝ }
+{
+    extent_in(key_of(reader, image, place), value_of(reader, image, place))
+}

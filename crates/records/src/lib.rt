@@ -1,0 +1,32 @@
+// The records of a volume's tree: directory entries, attributes, file extents and inodes (fs.rs).
+mod attribute;
+mod directory;
+mod extent;
+mod fields;
+mod inode;
+
+pub use attribute::Attribute;
+pub use attribute::AttributeData;
+pub use attribute::AttributeRead;
+pub use attribute::StreamData;
+pub use attribute::attribute_at;
+pub use attribute::attribute_bytes;
+pub use attribute::attribute_name;
+pub use directory::Entry;
+pub use directory::EntryRead;
+pub use directory::entry_at;
+pub use directory::entry_name;
+pub use extent::Extent;
+pub use extent::ExtentRead;
+pub use extent::extent_at;
+pub use fields::Dstream;
+pub use fields::Fields;
+pub use fields::NameField;
+pub use fields::StreamField;
+pub use inode::Ids;
+pub use inode::Inode;
+pub use inode::InodeRead;
+pub use inode::Owner;
+pub use inode::Times;
+pub use inode::inode_at;
+pub use inode::inode_name;
