@@ -1,0 +1,34 @@
+// The records of an id and a kind in a volume's tree (fs.rs, `records`).
+use btree::Search;
+use lookup::Resolve;
+use volume::Volume;
+ghost use mathlib.Core.Path.{_≡_};
+ghost use Prim.Native.Nat.{_-_};
+ghost use Rattle.lists.specs.Lists.{searchOf};
+
+pub fn search(v: Volume, id: u64, kind: u8) -> Search
+    ensures { λ r. ⌜ r ≡ searchOf v id kind ⌝ }
+{
+    let reader = v.reader;
+    let root = v.root;
+    let info = v.info;
+    let map = v.map;
+    Search {
+        reader: reader,
+        root: root,
+        info: info,
+        resolve: Resolve::Mapped(map),
+        id: id,
+        kind: kind,
+    }
+}
+
+// One fewer, down to 0.
+pub fn fewer(n: u64) -> u64
+    ensures { λ r. ⌜ r ≡ n - 1 ⌝ }
+{
+    if n == 0 {
+        return 0;
+    }
+    n - 1
+}
