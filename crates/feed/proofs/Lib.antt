@@ -1,0 +1,4 @@
+pub mod Windows
+pub mod Reading
+pub mod Feeding
+pub mod Examples

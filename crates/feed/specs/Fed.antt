@@ -1,0 +1,31 @@
+-- The lossy reading of bytes that come one after the other, up to the first zero byte. Document 01, bytes.rs: "`cstr` stops at the first zero byte
+-- or the end and reads lossily".
+use Prim.Native.Nat.{ℕ, _<_}
+use mathlib.Core.Path.{_≡_}
+use mathlib.Core.List.{List, [], _++_}
+use lib.ListN.{take}
+use Rattle.error.specs.Answer.{pick}
+use Rattle.bytes.specs.Part.{upToZero}
+use Rattle.utf8.specs.Text.{lossy}
+use Rattle.text.specs.Output.{Output, outputOf, puts}
+use Rattle.text.specs.declared.Position.{Position}
+use Rattle.feed.specs.declared.window.Window.{Window}
+use Rattle.feed.specs.declared.feed.Feed.{Feed}
+
+-- the bytes that came and are not written yet
+abbrev pub waiting : Window → List ℕ
+waiting w = take (w .len) (w .bytes)
+
+-- what was written, once the bytes xs have come too and all is written: document 01, "stops at the first zero byte or the end"
+unfoldable pub fed : ℕ → Feed → List ℕ → List ℕ → Output
+fed room f out xs = puts room (lossy (waiting (f .window) ++ pick (f .ended) [] (upToZero xs))) (outputOf (f .position) out)
+
+-- the same where no byte has come yet
+unfoldable pub begun : ℕ → Position → List ℕ → List ℕ → Output
+begun room p out xs = puts room (lossy (upToZero xs)) (outputOf p out)
+
+-- r with its buffer is f with its own, and has room in its window
+pub record Room (room : ℕ) (f : Feed) (before : List ℕ) (r : Feed) (after : List ℕ) : Type 0 where
+  pub short : r .window .len < 4
+  pub ends : r .ended ≡ f .ended
+  pub kept : (xs : List ℕ) → fed room r after xs ≡ fed room f before xs

@@ -1,0 +1,13 @@
+// The lossy reading of bytes that come one after the other, written into a buffer that the caller lends.
+mod feed;
+mod pieces;
+mod window;
+
+pub use feed::Feed;
+pub use feed::begin;
+pub use feed::finish;
+pub use feed::push;
+pub use feed::push_all;
+pub use feed::push_zeros;
+pub use pieces::put_lossy;
+pub use window::Window;
