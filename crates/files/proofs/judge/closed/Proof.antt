@@ -1,0 +1,11 @@
+use Rattle.files.proofs.JudgeLaws.{steps}
+use borrow.Author.Needs.{needs}
+use Rattle.files.proofs.judge.closed.Statement.{statement}
+use Rattle.files.proofs.judge.closed.Tie as tie
+
+pub closed-spec : {M : Type 1} → statement M
+closed-spec =
+    tie.close
+    (tie.spec
+    (λ c. search needs)
+    (λ c. search steps))

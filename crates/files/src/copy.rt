@@ -1,0 +1,83 @@
+// An extent's bytes, copied into the buffer.
+use crate::extents::Seen;
+use crate::extents::look;
+use crate::verdict::block_size;
+use crate::verdict::larger;
+use crate::verdict::smaller;
+use btree::Search;
+use cursor::Step;
+use cursor::next;
+use obj::Reader;
+use records::Extent;
+use text::clear;
+ghost use mathlib.Core.Path.{_≡_};
+ghost use mathlib.Core.List.{[], _∷_};
+ghost use Prim.Native.Nat.{_+_, _^_, _≤_, _<_};
+ghost use lib.ListN.{length, replicate};
+ghost use Rattle.cursor.specs.Left.{runOf};
+ghost use Rattle.records.specs.Extent.{extentAt};
+ghost use Rattle.files.specs.Verdict.{fine};
+ghost use Rattle.files.specs.Read.{diskOf, allows};
+ghost use Rattle.files.specs.Extents.{extentsIn};
+ghost use Rattle.files.specs.Copy.{lay, pasted, Ready};
+
+fn paste_at(image: &[u8], out: &mut [u8], at: usize, from: usize, n: usize)
+    requires { ⌜ (at + n ≤ length (now out)) × (from + n ≤ length (now image)) ⌝ }
+    ensures { λ _. ⌜ now (out .exit) ≡ pasted (now (out .entry)) at (now (image .entry)) from n ⌝ }
+{
+    let mut j = 0;
+    while j < n {
+        out[at + j] = image[from + j];
+        j += 1;
+    }
+}
+
+// An extent that was allowed, laid over the bytes of the file from off on.
+pub fn lay_at(image: &[u8], reader: Reader, off: u64, out: &mut [u8], e: Extent)
+    requires { ⌜ (off + length (now out) < 2 ^ 64) × (allows (diskOf reader (now image)) off (off + length (now out)) e ≡ fine) ⌝ }
+    ensures { λ _. ⌜ now (out .exit) ≡ lay (diskOf reader (now (image .entry))) off (e ∷ []) (now (out .entry)) ⌝ }
+{
+    let stop = off + out.len() as u64;
+    let a = larger(off, e.logical);
+    let b = smaller(stop, e.logical + e.len);
+    if b <= a {
+        return;
+    }
+    if e.phys == 0 {
+        return;
+    }
+    let from = e.phys * block_size(reader) + (a - e.logical);
+    paste_at(
+        image,
+        out,
+        (a - off) as usize,
+        from as usize,
+        (b - a) as usize,
+    );
+}
+
+// The bytes of the file from off on: zeros, and over them the extents from a step on, which were decided upon.
+pub fn fill(image: &[u8], q: Search, off: u64, out: &mut [u8], kept: Step)
+    requires { ⌜ (off + length (now out) < 2 ^ 64) × Ready (diskOf (q .reader) (now image)) off (off + length (now out)) (extentsIn (extentAt (q .reader) (now image)) (runOf (now image) q kept)) ⌝ }
+    ensures { λ _. ⌜ now (out .exit) ≡ lay (diskOf (q .reader) (now (image .entry))) off (extentsIn (extentAt (q .reader) (now (image .entry))) (runOf (now (image .entry)) q kept)) (replicate (length (now (out .entry))) 0) ⌝ }
+{
+    clear(out);
+    let reader = q.reader;
+    let stop = off + out.len() as u64;
+    let mut s = kept;
+    loop {
+        let found = s.found;
+        match look(image, reader, found) {
+            Seen::Over => return,
+            Seen::No(_) => return,
+            Seen::At(e) => {
+                if stop <= e.logical {
+                    return;
+                }
+                lay_at(image, reader, off, out, e);
+                let c = s.cursor;
+                s = next(image, q, c, s.nodes);
+            }
+        }
+    }
+}
