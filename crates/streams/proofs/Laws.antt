@@ -1,0 +1,161 @@
+-- One extent of a stream, as the code judges it, and the turns of the judging loop.
+use Prim.Native.Nat.{ℕ, zero, suc, _+_, _*_, _-_, _/_, _^_, _≤_, _<_, min, max}
+use mathlib.Core.Path.{_≡_, refl, sym, ap, _∙_}
+use mathlib.Core.List.{List, [], _∷_}
+use mathlib.Core.Logic.{_⊎_, inl, inr}
+use native.Mathlib.Omega.{arith}
+use mir.Syntax.{w64}
+use mir.Val.{Fits}
+use Rattle.error.specs.Answer.{Answer, got, no, ifLe, ifEq}
+use Rattle.error.specs.declared.Refusal.{Refusal}
+use Rattle.error.specs.declared.Refusal.the-variants.{Corrupt}
+use Rattle.error.proofs.Laws.{at-most, above, same, other}
+use Rattle.lookup.specs.Counted.{Counted, after, onto}
+use Rattle.btree.specs.Scan.{scanOf}
+use Rattle.btree.specs.declared.entries.Search.{Search}
+use Rattle.btree.specs.declared.entries.Place.{Place}
+use Rattle.btree.specs.declared.entries.Found.the-variants.{At, End}
+use Rattle.cursor.specs.Left.{left, runOf}
+use Rattle.cursor.specs.declared.Step.{Step}
+use Rattle.volume.specs.declared.Volume.{Volume}
+use Rattle.obj.specs.declared.reader.Reader.{Reader}
+use Rattle.records.specs.Extent.{extentTold, extentAt}
+use Rattle.records.specs.declared.extent.Extent.{Extent}
+use Rattle.records.specs.declared.extent.ExtentRead.{ExtentRead}
+use Rattle.lists.specs.Lists.{searchOf, listOf, extentsOf}
+use Rattle.lists.proofs.Reading.{reading, list-start, list-end, list-next}
+use Rattle.lists.proofs.Turns as list-turns
+use Rattle.files.specs.Verdict.{Verdict, fine, _>>_, atMost}
+use Rattle.files.specs.Read.{Disk, diskOf, blocks, countedIn, counted, lies}
+use Rattle.files.specs.Stream.{ready, settle}
+use Rattle.files.specs.Ruling.{ruled}
+use Rattle.files.specs.declared.verdict.Ruling.{Ruling}
+use Rattle.files.proofs.Verdicts.{le-or-gt}
+use Rattle.files.proofs.VerdictLaws.{sum-last}
+use Rattle.streams.specs.Step.{wantedOf, nextPos, stepVerdict}
+use Rattle.streams.specs.Streams.{settledTold, settledOf}
+use Rattle.streams.specs.declared.settle.Settled.{Settled}
+
+module _ (size : ℕ) (e : Extent) (a : ℕ) (p : a ≡ min (e .logical) size) where
+  pub wanted-is : (r : ℕ) → r ≡ min (e .len) (size - a) → r ≡ wantedOf size e
+  unfolding wantedOf
+  wanted-is r q = rw (q, p)
+
+  pub within-size : a ≤ size
+  within-size = omega arith
+
+  module _ (w : ℕ) (q : w ≡ wantedOf size e) where
+    pub pos-fits : Fits w64 size → Fits w64 (a + w)
+    unfolding wantedOf
+    pos-fits h = record { fits = omega (arith, h .fits) }
+
+    pub pos-next : (pos : ℕ) → pos < size → a + w ≡ nextPos size pos e
+    unfolding nextPos
+    pos-next pos h = above _ _ _ _ _ h (rw (p, q))
+
+pub pos-stays : (size pos : ℕ) (e : Extent) → size ≤ pos → pos ≡ nextPos size pos e
+unfolding nextPos
+pos-stays size pos e h = at-most _ _ _ _ _ h refl
+
+pub wanted-within : (size w : ℕ) (e : Extent) → w ≡ wantedOf size e → w ≤ e .len
+unfolding wantedOf
+wanted-within size w e q = omega arith
+
+module _ (d : Disk) (e : Extent) (n : ℕ) where
+  pub ready-sparse : e .phys ≡ 0 → fine ≡ ready d e n
+  unfolding ready
+  ready-sparse h = same _ _ _ _ _ h refl
+
+  module _ (h : e .phys ≡ 0 → ⊥) (r : Ruling) (p : ruled r ≡ countedIn (d .block) (d .count) e) where
+    pub ready-no : (w : Refusal) → r ≡ Ruling.No w → no w ≡ ready d e n
+    unfolding ready
+    ready-no w q = other _ _ _ _ _ h (rw (← p, q))
+
+    pub ready-none : r ≡ Ruling.Fine → n ≡ 0 → fine ≡ ready d e n
+    unfolding ready
+    ready-none q k = other _ _ _ _ _ h (rw (← p, q) (at-most _ _ _ _ _ (omega arith) refl))
+
+    pub ready-lies : (m : ℕ) (v : Verdict) → r ≡ Ruling.Fine → (n ≡ 0 → ⊥) → m ≡ blocks (d .block) n → v ≡ lies d (e .phys) (e .phys + m) → v ≡ ready d e n
+    unfolding ready
+    ready-lies m v q k l u = other _ _ _ _ _ h (rw (← p, q) (above _ _ _ _ _ (omega arith) (rw (← l) u)))
+
+-- the sum of `ready` fits
+pub blocks-fit : (x count : ℕ) (e : Extent) (r : Ruling) (n m : ℕ) → ruled r ≡ countedIn (max 1 x) count e → r ≡ Ruling.Fine → n ≤ e .len → m ≡ blocks (max 1 x) n → Fits w64 (e .phys + m)
+blocks-fit x count e r n m p q h k = record { fits = omega (arith, sum-last (max 1 x) count e r p q (max 1 x) refl (omega arith) n m h k) }
+
+module _ (d : Disk) (size pos : ℕ) (e : Extent) where
+  pub step-past : size ≤ pos → fine ≡ stepVerdict d size pos e
+  unfolding stepVerdict
+  step-past h = at-most _ _ _ _ _ h refl
+
+  module _ (h : pos < size) where
+    pub step-over : e .logical < pos → no Corrupt ≡ stepVerdict d size pos e
+    unfolding stepVerdict
+    step-over k = above _ _ _ _ _ h (above _ _ _ _ _ k refl)
+
+    pub step-ready : pos ≤ e .logical → (w : ℕ) (v : Verdict) → w ≡ wantedOf size e → v ≡ ready d e w → v ≡ stepVerdict d size pos e
+    unfolding stepVerdict
+    step-ready k w v q u = above _ _ _ _ _ h (at-most _ _ _ _ _ k (rw q at u))
+
+module _ (r : Ruling) (v : Verdict) where
+  pub after-fine : (z : Verdict) → r ≡ Ruling.Fine → z ≡ v → z ≡ (ruled r >> v)
+  after-fine z q h = rw q h
+
+  pub after-no : (w : Refusal) → r ≡ Ruling.No w → no w ≡ (ruled r >> v)
+  after-no w q = rw q
+
+settle-past : (d : Disk) (size pos : ℕ) (es : List Extent) → size ≤ pos → settle d size pos es ≡ fine
+unfolding settle
+settle-past d size pos [] h = refl
+settle-past d size pos (e ∷ es) h = sym (at-most _ _ _ _ _ h refl)
+
+-- an extent, and those after it
+settle-cons : (d : Disk) (size pos : ℕ) (e : Extent) (es : List Extent) → settle d size pos (e ∷ es) ≡ (stepVerdict d size pos e >> settle d size (nextPos size pos e) es)
+unfolding settle wantedOf
+settle-cons d size pos e es = of (le-or-gt size pos) (le-or-gt pos (e .logical))
+  where
+    of : (size ≤ pos) ⊎ (pos < size) → (pos ≤ e .logical) ⊎ (e .logical < pos) → settle d size pos (e ∷ es) ≡ (stepVerdict d size pos e >> settle d size (nextPos size pos e) es)
+    of (inl h) k = rw (← step-past d size pos e h, ← pos-stays size pos e h) (settle-past d size pos (e ∷ es) h ∙ sym (settle-past d size pos es h))
+    of (inr h) (inr k) = rw (← step-over d size pos e h k) (sym (above _ _ _ _ _ h (above _ _ _ _ _ k refl)))
+    of (inr h) (inl k) =
+        rw (← step-ready d size pos e h k (wantedOf size e) (ready d e (wantedOf size e)) refl refl, ← pos-next size e (min (e .logical) size) refl (wantedOf size e) refl pos h)
+        (sym (above _ _ _ _ _ h (at-most _ _ _ _ _ k refl)))
+
+-- the verdict so far, and what is left
+unfoldable pub settling : Disk → ℕ → Verdict → ℕ → List Extent → Verdict
+settling d size v pos es = v >> settle d size pos es
+
+pub settling-next : (d : Disk) (size : ℕ) (v z : Verdict) (pos m : ℕ) (e : Extent) → z ≡ (v >> stepVerdict d size pos e) → m ≡ nextPos size pos e → (es : List Extent) → settling d size v pos (e ∷ es) ≡ settling d size z m es
+unfolding settling
+settling-next d size (got tt) z pos m e p q es = rw (p, q) (settle-cons d size pos e es)
+settling-next d size (no w) z pos m e p q es = rw p
+
+settling-end : (d : Disk) (size : ℕ) (v : Verdict) (pos : ℕ) → settling d size v pos [] ≡ v
+unfolding settling settle
+settling-end d size (got tt) pos = refl
+settling-end d size (no w) pos = refl
+
+module _ (rd : Reader) (b : List ℕ) (q : Search) (s : Step) (d : Disk) (size : ℕ) where
+  pub settle-start : (n : ℕ) → runOf b q s ≡ scanOf b q n → reading (extentAt rd b) (settling d size fine 0) (runOf b q s) ≡ (onto (listOf (extentAt rd b) (scanOf b q n)) λ es t. after t (settle d size 0 es))
+  unfolding settling
+  settle-start n e = list-start (extentAt rd b) (settling d size fine 0) b q s n e
+
+  module _ (v : Verdict) (pos : ℕ) (whole : Counted (Unit {0})) (inv : reading (extentAt rd b) (settling d size v pos) (runOf b q s) ≡ whole) where
+    pub settle-end : s .found ≡ End → after (s .nodes) v ≡ whole
+    settle-end e = ap (after (s .nodes)) (sym (settling-end d size v pos)) ∙ list-end (extentAt rd b) (settling d size v pos) b q s whole inv e
+
+    pub settle-next : (t : Step) (z : Verdict) (m : ℕ) (p : Place) (r : ExtentRead) (e : Extent) → s .found ≡ At p → extentTold r ≡ extentAt rd b p → r ≡ ExtentRead.Got e
+        → z ≡ (v >> stepVerdict d size pos e) → m ≡ nextPos size pos e → runOf b q t ≡ left b q (s .cursor) (s .nodes) → reading (extentAt rd b) (settling d size z m) (runOf b q t) ≡ whole
+    settle-next t z m p r e f h g k l u =
+        list-next (extentAt rd b) (settling d size v pos) b q s whole inv p f (settling d size z m) e t (list-turns.extent-was r (extentAt rd b p) h e g) (settling-next d size v z pos m e k l) u
+
+pub settle-done : (b : List ℕ) (v : Volume) (object size s n : ℕ) (q : Search) (x : Ruling) (r : Settled) → q ≡ searchOf v object 8 → r ≡ record { ruling = x; nodes = n }
+    → after n (ruled x) ≡ (onto (listOf (extentAt (v .reader) b) (scanOf b q s)) λ es t. after t (settle (diskOf (v .reader) b) size 0 es)) → settledTold r ≡ settledOf b v object size s
+unfolding settledOf extentsOf
+settle-done b v object size s n q x r e h g = rw h (rw e at g)
+
+pub ruleset all = (list-turns.turns, blocks-fit, wanted-is, within-size, pos-fits, pos-next, pos-stays, wanted-within)
+
+pub ruleset steps = (all, ready-sparse, ready-no, ready-none, ready-lies, step-past, step-over, step-ready, after-fine, after-no)
+
+pub ruleset settles = (all, settle-start, settle-end, settle-done)

@@ -1,0 +1,143 @@
+-- The bytes of a stream, as the code writes them.
+use Prim.Native.Nat.{ℕ, zero, suc, _+_, _*_, _-_, _/_, _^_, _≤_, _<_, min, max}
+use mathlib.Core.Path.{_≡_, refl, sym, ap, _∙_}
+use mathlib.Core.List.{List, [], _∷_, _++_, append-nil}
+use native.Mathlib.Omega.{arith}
+use native.Mathlib.Nat.{div-lt-iff-lt-mul, le-div-iff-mul-le}
+use mathlib.Core.Logic.{_⊎_, inl, inr}
+use Rattle.files.proofs.Verdicts.{le-or-gt}
+use Rattle.obj.specs.declared.reader.Reader.{Reader}
+use lib.ListN.{length, take, drop, replicate, drop-of-length-le}
+use lib.Seq.{take-nil}
+use mir.Syntax.{w64}
+use mir.Val.{Fits}
+use Rattle.error.specs.Answer.{Answer, got, no}
+use Rattle.error.specs.declared.Refusal.{Refusal}
+use Rattle.error.proofs.Laws.{at-most, above}
+use Rattle.bytes.specs.Part.{partOf}
+use Rattle.bytes.specs.declared.Span.{Span}
+use Rattle.text.specs.Output.{Output, puts}
+use Rattle.text.specs.Words.{pairs}
+use Rattle.text.proofs.Digits.{pairs-append, pairs-join}
+use Rattle.text.proofs.Writing.{puts-append, stopped}
+use Rattle.btree.specs.Scan.{Run, more, end, refused, scanOf}
+use Rattle.btree.specs.declared.entries.Search.{Search}
+use Rattle.btree.specs.declared.entries.Place.{Place}
+use Rattle.btree.specs.declared.entries.Found.the-variants.{At, End, No}
+use Rattle.cursor.specs.Left.{left, runOf}
+use Rattle.cursor.specs.declared.Step.{Step}
+use Rattle.cursor.proofs.Through.{run-at, run-end, run-no}
+use Rattle.volume.specs.declared.Volume.{Volume}
+use Rattle.records.specs.Extent.{extentTold, extentAt}
+use Rattle.records.specs.declared.extent.Extent.{Extent}
+use Rattle.records.specs.declared.extent.ExtentRead.{ExtentRead}
+use Rattle.lists.specs.Lists.{searchOf}
+use Rattle.files.specs.Read.{Disk, diskOf}
+use Rattle.files.specs.Stream.{taken}
+use Rattle.files.proofs.StreamLaws.{taken-sparse, taken-real}
+use Rattle.streams.specs.Step.{wantedOf, nextPos, stepBytes}
+use Rattle.streams.specs.Streams.{runBytes, streamBytes}
+use Rattle.streams.proofs.Laws as laws
+
+-- one piece of a text of bytes, and what is left of it
+module _ (room : ℕ) (o p : Output) (x : List ℕ) (e : p ≡ puts room (pairs x []) o) where
+  pub pairs-then : (y : List ℕ) (z : Output) → z ≡ puts room (pairs y []) p → z ≡ puts room (pairs (x ++ y) []) o
+  pairs-then y z h = h ∙ rw (e, ← puts-append room (pairs x []) (pairs y []) o, ← pairs-append x [] (pairs y []), ← pairs-join)
+
+  pub pairs-past : (y : List ℕ) (w : Output) → puts room (pairs (x ++ y) []) o ≡ w → puts room (pairs y []) p ≡ w
+  pairs-past y w h = pairs-then y (puts room (pairs y []) p) refl ∙ h
+
+pub no-bytes : (room : ℕ) (o : Output) → o ≡ puts room (pairs [] []) o
+unfolding puts pairs
+no-bytes room o = refl
+
+module _ (room : ℕ) (o w : Output) (n : ℕ) (h : puts room (pairs (replicate n 0) []) o ≡ w) where
+  pub zeros-end : n ≤ 0 → o ≡ w
+  zeros-end k = let q : n ≡ 0 = omega arith in no-bytes room o ∙ (rw q at h)
+
+  pub zeros-next : (p : Output) → 0 < n → p ≡ puts room (pairs (0 ∷ []) []) o → puts room (pairs (replicate (n - 1) 0) []) p ≡ w
+  zeros-next p k e =
+      let q : n ≡ suc (n - 1) = omega arith in
+      pairs-past room o p (0 ∷ []) e (replicate (n - 1) 0) w (rw q at h)
+
+-- where a block begins; the code found blocks of m bytes
+module _ (image : List ℕ) (x m p : ℕ) (e : m ≡ max 1 x) where
+  pub begins-past : length image / m < p → length image ≡ min (p * max 1 x) (length image)
+  begins-past k = rw (← e) (omega (arith, div-lt-iff-lt-mul {k = m} (omega arith) .0 k))
+
+  module _ (k : p ≤ length image / m) where
+    within-image : p * m ≤ length image
+    within-image = le-div-iff-mul-le {k = m} (omega arith) .0 k
+
+    pub begins-in : p * m ≡ min (p * max 1 x) (length image)
+    begins-in = rw (← e) (omega (arith, within-image))
+
+    pub begins-fits : length image * 1 < 2 ^ 63 → Fits w64 (p * m)
+    begins-fits f = record { fits = omega (arith, within-image) }
+
+pub drop-least : (k : ℕ) (b : List ℕ) → drop (min k (length b)) b ≡ drop k b
+drop-least k b = of (le-or-gt k (length b))
+  where
+    of : (k ≤ length b) ⊎ (length b < k) → drop (min k (length b)) b ≡ drop k b
+    of (inl h) = let q : min k (length b) ≡ k = omega arith in rw q
+    of (inr h) = let q : min k (length b) ≡ length b = omega arith in rw (q, drop-of-length-le b {i = length b} (omega arith), drop-of-length-le b {i = k} (omega arith))
+
+module _ (d : Disk) (e : Extent) (n : ℕ) where
+  pub zeros-taken : (room : ℕ) (o z : Output) → e .phys ≡ 0 → z ≡ puts room (pairs (replicate n 0) []) o → z ≡ puts room (pairs (taken d e n) []) o
+  zeros-taken room o z h g = rw (taken-sparse d e n h) g
+
+  pub part-taken : (room : ℕ) (o z : Output) (k : ℕ) (x : List ℕ) → (e .phys ≡ 0 → ⊥) → k ≡ min (e .phys * d .block) (length (d .image)) → x ≡ partOf (d .image) (record { start = k; len = n })
+      → z ≡ puts room (pairs x []) o → z ≡ puts room (pairs (taken d e n) []) o
+  unfolding partOf
+  part-taken room o z k x h p q g = rw (taken-real d e n h) (rw (q, p, drop-least (e .phys * d .block) (d .image)) at g)
+
+module _ (d : Disk) (size pos : ℕ) (e : Extent) (room : ℕ) (o : Output) where
+  pub step-none : size ≤ pos → o ≡ puts room (pairs (stepBytes d size pos e) []) o
+  unfolding stepBytes
+  step-none h = no-bytes room o ∙ ap (λ (x : List ℕ). puts room (pairs x []) o) (at-most _ _ _ _ _ h refl)
+
+  pub step-some : (a g w : ℕ) (p z : Output) → pos < size → a ≡ min (e .logical) size → g ≡ a - pos → p ≡ puts room (pairs (replicate g 0) []) o → w ≡ wantedOf size e
+      → z ≡ puts room (pairs (taken d e w) []) p → z ≡ puts room (pairs (stepBytes d size pos e) []) o
+  unfolding stepBytes
+  step-some a g w p z h qa qg qp qw qz =
+      pairs-then room o p (replicate g 0) qp (taken d e w) z qz
+      ∙ ap (λ (x : List ℕ). puts room (pairs x []) o) (above _ _ _ _ _ h (rw (qg, qa, qw)))
+
+-- the turns of the writing loop
+pub pour-start : (room : ℕ) (rd : Reader) (b : List ℕ) (q : Search) (s : Step) (d : Disk) (size n : ℕ) (o : Output) → runOf b q s ≡ scanOf b q n
+    → puts room (pairs (runBytes (extentAt rd b) d size 0 (runOf b q s)) []) o ≡ puts room (pairs (runBytes (extentAt rd b) d size 0 (scanOf b q n)) []) o
+pour-start room rd b q s d size n o e = rw e
+
+module _ (room : ℕ) (rd : Reader) (b : List ℕ) (q : Search) (s : Step) (d : Disk) (size pos : ℕ) (o w : Output) where
+  module _ (inv : puts room (pairs (runBytes (extentAt rd b) d size pos (runOf b q s)) []) o ≡ w) where
+    pub pour-end : (n : ℕ) (z : Output) → s .found ≡ End → n ≡ size - pos → z ≡ puts room (pairs (replicate n 0) []) o → z ≡ w
+    unfolding runBytes
+    pour-end n z e k g = rw k at g ∙ (rw (run-end b q s e) at inv)
+
+    pub pour-refused : (x : Refusal) → s .found ≡ No x → o ≡ w
+    unfolding runBytes
+    pour-refused x e = no-bytes room o ∙ (rw (run-no b q s x e) at inv)
+
+    module _ (p : Place) (e : s .found ≡ At p) (r : ExtentRead) (h : extentTold r ≡ extentAt rd b p) where
+      pub pour-no : (x : Refusal) → r ≡ ExtentRead.No x → o ≡ w
+      unfolding runBytes
+      pour-no x g = no-bytes room o ∙ (rw (run-at b q s p e, ← h, g) at inv)
+
+      pub pour-next : (x : Extent) (t : Step) (m : ℕ) (z : Output) → r ≡ ExtentRead.Got x → z ≡ puts room (pairs (stepBytes d size pos x) []) o → m ≡ nextPos size pos x
+          → runOf b q t ≡ left b q (s .cursor) (s .nodes) → puts room (pairs (runBytes (extentAt rd b) d size m (runOf b q t)) []) z ≡ w
+      unfolding runBytes
+      pour-next x t m z g k l u =
+          pairs-past room o z (stepBytes d size pos x) k _ w (rw (l, u) (rw (run-at b q s p e, ← h, g) at inv))
+
+pub pour-done : (room : ℕ) (b : List ℕ) (v : Volume) (object size s : ℕ) (q : Search) (o z : Output) → q ≡ searchOf v object 8
+    → z ≡ puts room (pairs (runBytes (extentAt (v .reader) b) (diskOf (v .reader) b) size 0 (scanOf b q s)) []) o → z ≡ puts room (pairs (streamBytes b v object size s) []) o
+unfolding streamBytes
+pour-done room b v object size s q o z e h = rw e at h
+
+pub ruleset begin = (laws.all, begins-past, begins-in, begins-fits)
+
+pub ruleset zeros = (laws.all, stopped, zeros-end, zeros-next)
+
+pub ruleset pours = (laws.all, zeros-taken, part-taken, step-none, step-some)
+
+pub ruleset pouring = (laws.all, pour-start, pour-end, pour-refused, pour-no, pour-next, pour-done)

@@ -1,0 +1,138 @@
+// The bytes of a stream in hexadecimal, an extent after the other.
+use crate::step::less;
+use crate::step::next_pos;
+use crate::step::wanted;
+use btree::Found;
+use bytes::Span;
+use bytes::part;
+use cursor::first;
+use cursor::next;
+use files::block_size;
+use files::smaller;
+use lists::search;
+use obj::Reader;
+use records::Extent;
+use records::ExtentRead;
+use records::extent_at;
+use text::Position;
+use text::put_hex;
+use volume::Volume;
+ghost use mathlib.Core.Path.{_≡_};
+ghost use mathlib.Core.List.{[]};
+ghost use Prim.Native.Nat.{_*_, min, max};
+ghost use lib.ListN.{length, replicate};
+ghost use Rattle.text.specs.Output.{outputOf, puts};
+ghost use Rattle.text.specs.Words.{pairs};
+ghost use Rattle.files.specs.Read.{diskOf};
+ghost use Rattle.files.specs.Stream.{taken};
+ghost use Rattle.streams.specs.Step.{stepBytes};
+ghost use Rattle.streams.specs.Streams.{streamBytes};
+
+// n zero bytes.
+fn put_zeros(out: &mut [u8], room: usize, p: Position, n: u64) -> Position
+    ensures { λ r. ⌜ outputOf r (now (out .exit)) ≡ puts room (pairs (replicate n 0) []) (outputOf p (now (out .entry))) ⌝ }
+{
+    let mut q = p;
+    let mut left = n;
+    while 0 < left {
+        match q {
+            Position::No(e) => return Position::No(e),
+            Position::At(_) => {
+                q = put_hex(out, room, q, b"\x00");
+                left -= 1;
+            }
+        }
+    }
+    q
+}
+
+// Where block p begins in the image, or its end.
+pub fn begins(image: &[u8], reader: Reader, p: u64) -> usize
+    ensures { λ r. ⌜ r ≡ min (p * max 1 (reader .«block_size»)) (length (now (image .entry))) ⌝ }
+{
+    let bs = block_size(reader);
+    if image.len() as u64 / bs < p {
+        return image.len();
+    }
+    (p * bs) as usize
+}
+
+// The first n bytes of an extent.
+fn put_taken(
+    out: &mut [u8],
+    room: usize,
+    p: Position,
+    image: &[u8],
+    reader: Reader,
+    e: Extent,
+    n: u64,
+) -> Position
+    ensures { λ r. ⌜ outputOf r (now (out .exit)) ≡ puts room (pairs (taken (diskOf reader (now (image .entry))) e n) []) (outputOf p (now (out .entry))) ⌝ }
+{
+    if e.phys == 0 {
+        return put_zeros(out, room, p, n);
+    }
+    let span = Span {
+        start: begins(image, reader, e.phys),
+        len: n as usize,
+    };
+    put_hex(out, room, p, part(image, span))
+}
+
+// The gap before an extent, and its bytes.
+fn put_step(
+    out: &mut [u8],
+    room: usize,
+    p: Position,
+    image: &[u8],
+    reader: Reader,
+    size: u64,
+    pos: u64,
+    e: Extent,
+) -> Position
+    ensures { λ r. ⌜ outputOf r (now (out .exit)) ≡ puts room (pairs (stepBytes (diskOf reader (now (image .entry))) size pos e) []) (outputOf p (now (out .entry))) ⌝ }
+{
+    if size <= pos {
+        return p;
+    }
+    let a = smaller(e.logical, size);
+    let gap = less(a, pos);
+    let q = put_zeros(out, room, p, gap);
+    put_taken(out, room, q, image, reader, e, wanted(size, e))
+}
+
+// All bytes of a stream; what an unread extent would give is left out.
+pub fn put_stream_hex(
+    out: &mut [u8],
+    room: usize,
+    p: Position,
+    image: &[u8],
+    v: Volume,
+    object: u64,
+    size: u64,
+    nodes: u64,
+) -> Position
+    ensures { λ r. ⌜ outputOf r (now (out .exit)) ≡ puts room (pairs (streamBytes (now (image .entry)) v object size nodes) []) (outputOf p (now (out .entry))) ⌝ }
+{
+    let q = search(v, object, 8);
+    let reader = v.reader;
+    let mut o = p;
+    let mut pos: u64 = 0;
+    let mut s = first(image, q, nodes);
+    loop {
+        let at = s.found;
+        match at {
+            Found::End => return put_zeros(out, room, o, less(size, pos)),
+            Found::No(_) => return o,
+            Found::At(p) => match extent_at(reader, image, p) {
+                ExtentRead::No(_) => return o,
+                ExtentRead::Got(e) => {
+                    o = put_step(out, room, o, image, reader, size, pos, e);
+                    pos = next_pos(size, pos, e);
+                    let c = s.cursor;
+                    s = next(image, q, c, s.nodes);
+                }
+            },
+        }
+    }
+}

@@ -1,0 +1,77 @@
+// Whether a stream can be read: no byte is written before all is decided.
+use crate::step::next_pos;
+use crate::step::step_at;
+use btree::Found;
+use cursor::first;
+use cursor::next;
+use files::Ruling;
+use lists::search;
+use obj::Reader;
+use records::Extent;
+use records::ExtentRead;
+use records::extent_at;
+use volume::Volume;
+ghost use mathlib.Core.Path.{_≡_};
+ghost use Rattle.files.specs.Read.{diskOf};
+ghost use Rattle.files.specs.Ruling.{ruled};
+ghost use Rattle.streams.specs.Step.{stepAfter};
+ghost use Rattle.streams.specs.Streams.{settledTold, settledOf};
+
+// A ruling, and the nodes gone through.
+pub struct Settled {
+    pub ruling: Ruling,
+    pub nodes: u64,
+}
+
+fn with_nodes(ruling: Ruling, nodes: u64) -> Settled
+    ensures { λ r. ⌜ r ≡ record { ruling = ruling; nodes = nodes } ⌝ }
+{
+    Settled {
+        ruling: ruling,
+        nodes: nodes,
+    }
+}
+
+// The first refusal stays.
+fn step_after(
+    ruling: Ruling,
+    image: &[u8],
+    reader: Reader,
+    size: u64,
+    pos: u64,
+    e: Extent,
+) -> Ruling
+    ensures { λ r. ⌜ ruled r ≡ stepAfter (ruled ruling) (diskOf reader (now (image .entry))) size pos e ⌝ }
+{
+    match ruling {
+        Ruling::Fine => step_at(image, reader, size, pos, e),
+        Ruling::No(w) => Ruling::No(w),
+    }
+}
+
+// All extents of the stream are read before the first of them is judged.
+pub fn settle_stream(image: &[u8], v: Volume, object: u64, size: u64, nodes: u64) -> Settled
+    ensures { λ r. ⌜ settledTold r ≡ settledOf (now (image .entry)) v object size nodes ⌝ }
+{
+    let q = search(v, object, 8);
+    let reader = v.reader;
+    let mut ruling = Ruling::Fine;
+    let mut pos: u64 = 0;
+    let mut s = first(image, q, nodes);
+    loop {
+        let at = s.found;
+        match at {
+            Found::End => return with_nodes(ruling, s.nodes),
+            Found::No(w) => return with_nodes(Ruling::No(w), s.nodes),
+            Found::At(p) => match extent_at(reader, image, p) {
+                ExtentRead::No(w) => return with_nodes(Ruling::No(w), s.nodes),
+                ExtentRead::Got(e) => {
+                    ruling = step_after(ruling, image, reader, size, pos, e);
+                    pos = next_pos(size, pos, e);
+                    let c = s.cursor;
+                    s = next(image, q, c, s.nodes);
+                }
+            },
+        }
+    }
+}
