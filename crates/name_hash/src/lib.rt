@@ -293,7 +293,7 @@ pub fn crc32c_raw(register: u32, b: &[u8]) -> u32
     c
 }
 
-fn lower_case(x: u8) -> u8
+pub fn lower_case(x: u8) -> u8
     ensures { λ r. ⌜ r ≡ lower x ⌝ }
 {
     if x < 65 {

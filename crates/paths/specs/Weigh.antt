@@ -1,0 +1,37 @@
+-- The same choice made entry after entry, in one reading of the list: what is known before, after an entry, and after the last (Find.antt, `findEntry`).
+use Prim.Native.Nat.{ℕ}
+use mathlib.Core.List.{List}
+use Rattle.error.specs.Answer.{Answer, got, no, pick}
+use Rattle.error.specs.declared.Refusal.the-variants.{NotFound, CharacterNotCovered}
+use Rattle.utf8.specs.Text.{sameBytes}
+use Rattle.records.specs.declared.directory.Entry.{Entry}
+use Rattle.paths.specs.Names.{insensitive, wide, sameKeys}
+use Rattle.paths.specs.declared.names.NameRule.{NameRule}
+use Rattle.paths.specs.declared.choose.Choice.{Choice}
+use Rattle.paths.specs.declared.choose.Choice.the-variants.{Open, Exact, Keyed, No}
+
+-- "in key comparison on an insensitive volume", "The part is tested first"
+unfoldable pub noneYet : NameRule → List ℕ → Choice
+noneYet rule p = pick (insensitive rule) (pick (wide p) (No CharacterNotCovered) Open) (No NotFound)
+
+-- "the first exactly equal name is taken"
+unfoldable pub unlessExact : List ℕ → List ℕ → Entry → Choice → Choice
+unlessExact name p e other = pick (sameBytes name p) (Exact e) other
+
+-- "else the first with an equal key", or 9
+unfoldable pub byKey : NameRule → List ℕ → List ℕ → Entry → Choice
+byKey rule name p e = pick (wide name) (No CharacterNotCovered) (pick (sameKeys (rule .caseless) (rule .normless) p name) (Keyed e) Open)
+
+-- what is known after an entry of a name
+unfoldable pub weighed : NameRule → List ℕ → List ℕ → Entry → Choice → Choice
+weighed rule name p e Open = unlessExact name p e (byKey rule name p e)
+weighed rule name p e (Exact x) = Exact x
+weighed rule name p e (Keyed x) = unlessExact name p e (Keyed x)
+weighed rule name p e (No w) = unlessExact name p e (No w)
+
+-- and after the last; 4 "no such .. path part"
+abbrev pub settled : Choice → Answer Entry
+settled Open = no NotFound
+settled (Exact x) = got x
+settled (Keyed x) = got x
+settled (No w) = no w

@@ -1,0 +1,70 @@
+// How a volume compares names (fs.rs, `NameRule`).
+use name_hash::lower_case;
+use volume::Volume;
+ghost use mathlib.Core.Path.{_≡_};
+ghost use Rattle.paths.specs.Names.{ruleOf, insensitive, wide, folded, sameKeys};
+
+pub struct NameRule {
+    pub caseless: bool,
+    pub normless: bool,
+}
+
+pub fn name_rule(v: Volume) -> NameRule
+    ensures { λ r. ⌜ r ≡ ruleOf v ⌝ }
+{
+    let sb = v.sb;
+    NameRule {
+        caseless: sb.incompat % 2 == 1,
+        normless: sb.incompat / 8 % 2 == 1,
+    }
+}
+
+// Whether names with other bytes may be the same.
+pub fn insensitive(rule: NameRule) -> bool
+    ensures { λ r. ⌜ r ≡ insensitive rule ⌝ }
+{
+    if rule.caseless {
+        return true;
+    }
+    rule.normless
+}
+
+// Whether a name has a character above U+007F.
+pub fn is_wide(b: &[u8]) -> bool
+    ensures { λ r. ⌜ r ≡ wide (now (b .entry)) ⌝ }
+{
+    let mut i = 0;
+    while i < b.len() {
+        if 127 < b[i] {
+            return true;
+        }
+        i += 1;
+    }
+    false
+}
+
+fn fold(x: u8, caseless: bool) -> u8
+    ensures { λ r. ⌜ r ≡ folded caseless x ⌝ }
+{
+    if caseless {
+        return lower_case(x);
+    }
+    x
+}
+
+// Whether two ASCII names have the same key.
+pub fn same_key(rule: NameRule, a: &[u8], b: &[u8]) -> bool
+    ensures { λ r. ⌜ r ≡ sameKeys (rule .caseless) (rule .normless) (now (a .entry)) (now (b .entry)) ⌝ }
+{
+    if a.len() != b.len() {
+        return false;
+    }
+    let mut i = 0;
+    while i < a.len() {
+        if fold(a[i], rule.caseless) != fold(b[i], rule.caseless) {
+            return false;
+        }
+        i += 1;
+    }
+    true
+}
