@@ -1,0 +1,4 @@
+pub mod Names
+pub mod Pouring
+pub mod Targets
+pub mod Answers

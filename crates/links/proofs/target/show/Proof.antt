@@ -1,0 +1,22 @@
+use borrow.Author.Needs.{needs}
+use Rattle.links.proofs.Targets.{filled-short, filled-written}
+use Rattle.links.proofs.target.show.Statement.{statement}
+use Rattle.links.proofs.target.show.Tie as tie
+
+pub show-spec : {M : Type 1} → statement M
+show-spec =
+    tie.close
+    (tie.spec
+    (λ c. search needs)
+    (λ c. search needs)
+    (λ c κs. search needs)
+    (λ c. search needs)
+    (λ c. search needs)
+    (λ c κs. search needs)
+    (λ c κs. search needs)
+    (λ c. search needs)
+    (λ c. filled-short _ _ (c .before .before .before .before .before .put-text .last .0) _ (c .before .before .before .before .before .put-text .kept .0) (c .before .before .before .before .before .put-text .ensures) _ (c .before .e .given .1))
+    (λ c. search needs)
+    (λ c.
+    filled-written _ _ (c .before .before .before .before .before .before .before .before .before .put-text .last .0) _ (c .before .before .before .before .before .before .before .before .before .put-text .kept .0) (c .before .before .before .before .before .before .before .before .before .put-text .ensures) _ (c .before .before .before .put-text2 .result) (c .before .before .before .put-text2 .last .0) (c .number-at .result)
+    (c .before .before .before .before .before .enum-told .given .1) (c .before .before .before .put-text2 .ensures) (c .number-at .ensures)))

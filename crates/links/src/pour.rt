@@ -1,0 +1,108 @@
+// The bytes of a stream, fed an extent after the other.
+use btree::Found;
+use bytes::Span;
+use bytes::part;
+use cursor::first;
+use cursor::next;
+use feed::Feed;
+use feed::push_all;
+use feed::push_zeros;
+use files::smaller;
+use lists::search;
+use obj::Reader;
+use records::Extent;
+use records::ExtentRead;
+use records::extent_at;
+use streams::begins;
+use streams::less;
+use streams::next_pos;
+use streams::wanted;
+use volume::Volume;
+ghost use mathlib.Core.Path.{_≡_};
+ghost use mathlib.Core.List.{List, _++_};
+ghost use Prim.Native.Nat.{ℕ};
+ghost use Rattle.feed.specs.Fed.{fed};
+ghost use Rattle.files.specs.Read.{diskOf};
+ghost use Rattle.files.specs.Stream.{taken};
+ghost use Rattle.streams.specs.Step.{stepBytes};
+ghost use Rattle.streams.specs.Streams.{streamBytes};
+
+// The first n bytes of an extent.
+fn push_taken(
+    out: &mut [u8],
+    room: usize,
+    f: Feed,
+    image: &[u8],
+    reader: Reader,
+    e: Extent,
+    n: u64,
+) -> Feed
+    ensures { λ r. ⌜ ((xs : List ℕ) → fed room r (now (out .exit)) xs ≡ fed room f (now (out .entry)) (taken (diskOf reader (now (image .entry))) e n ++ xs)) ⌝ }
+{
+    if e.phys == 0 {
+        return push_zeros(out, room, f, n);
+    }
+    let span = Span {
+        start: begins(image, reader, e.phys),
+        len: n as usize,
+    };
+    push_all(out, room, f, part(image, span))
+}
+
+// The gap before an extent, and its bytes.
+fn push_step(
+    out: &mut [u8],
+    room: usize,
+    f: Feed,
+    image: &[u8],
+    reader: Reader,
+    size: u64,
+    pos: u64,
+    e: Extent,
+) -> Feed
+    ensures { λ r. ⌜ ((xs : List ℕ) → fed room r (now (out .exit)) xs ≡ fed room f (now (out .entry)) (stepBytes (diskOf reader (now (image .entry))) size pos e ++ xs)) ⌝ }
+{
+    if size <= pos {
+        return f;
+    }
+    let a = smaller(e.logical, size);
+    let gap = less(a, pos);
+    let g = push_zeros(out, room, f, gap);
+    push_taken(out, room, g, image, reader, e, wanted(size, e))
+}
+
+// All bytes of a stream.
+pub fn push_stream(
+    out: &mut [u8],
+    room: usize,
+    f: Feed,
+    image: &[u8],
+    v: Volume,
+    object: u64,
+    size: u64,
+    nodes: u64,
+) -> Feed
+    ensures { λ r. ⌜ ((xs : List ℕ) → fed room r (now (out .exit)) xs ≡ fed room f (now (out .entry)) (streamBytes (now (image .entry)) v object size nodes ++ xs)) ⌝ }
+{
+    let q = search(v, object, 8);
+    let reader = v.reader;
+    let mut g = f;
+    let mut pos: u64 = 0;
+    let mut s = first(image, q, nodes);
+    loop {
+        let at = s.found;
+        match at {
+            Found::End => return push_zeros(out, room, g, less(size, pos)),
+            Found::No(_) => return g,
+            Found::At(p) => match extent_at(reader, image, p) {
+                ExtentRead::No(_) => return g,
+                ExtentRead::Got(e) => {
+                    g = push_step(out, room, g, image, reader, size, pos, e);
+                    pos = next_pos(size, pos, e);
+                    let c = s.cursor;
+                    s = next(image, q, c, s.nodes);
+                }
+            },
+        }
+    }
+}
