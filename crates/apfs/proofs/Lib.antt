@@ -1,2 +1,6 @@
 pub mod Lines
 pub mod Calls
+pub mod Attributes
+pub mod Volumes
+pub mod FileReads
+pub mod LinkReads
