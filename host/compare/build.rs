@@ -1,4 +1,4 @@
-//! Links the port's archives, and says whether the oracle has the published sources.
+//! Links the archive of the port's leaves, and says whether the oracle has the published sources.
 
 use std::env;
 use std::path::{Path, PathBuf};
@@ -27,9 +27,6 @@ fn main() {
     println!("cargo:rerun-if-changed=build.rs");
     let folder = folder();
     link(&folder, "leaves");
-    if env::var_os("CARGO_FEATURE_APFS").is_some() {
-        link(&folder, "apfs");
-    }
     let folder = folder.canonicalize().expect("the archives' folder");
     println!("cargo:rustc-link-search=native={}", folder.display());
 

@@ -4,6 +4,7 @@ use std::path::Path;
 use std::process::exit;
 use std::sync::Arc;
 
+use compare::calls::{self, Port};
 use compare::comparison::Comparison;
 use compare::opening::{answer, check::check, run::Run, Open};
 use compare::volumes::Volumes;
@@ -15,6 +16,13 @@ fn port() -> Option<Open<'static>> {
     #[cfg(feature = "apfs")]
     return Some(&compare::port::open);
     #[cfg(not(feature = "apfs"))]
+    None
+}
+
+fn calls_port() -> Option<Port<'static>> {
+    #[cfg(feature = "calls")]
+    return Some(&calls::port);
+    #[cfg(not(feature = "calls"))]
     None
 }
 
@@ -76,6 +84,29 @@ pub fn volumes(seed: u64, count: u64) {
     finish("volumes", run.failure.is_none() && missing.is_empty(), "all agree");
 }
 
+pub fn calls(seed: u64, count: u64) {
+    answer::silence_panics();
+    let run = calls::run::Run::over(seed, count, calls_port());
+    println!("seed {seed}, {count} sticks, {} images, {} calls", run.images, run.tally.calls());
+    print!("{}{}", run.tally, run.met);
+    let missing = [run.tally.missing(), run.met.missing()].concat();
+    let mut good = !run.report_failure(calls_port(), Path::new("target"));
+    if good && !missing.is_empty() {
+        println!("never seen: {}", missing.join(", "));
+        good = false;
+    }
+    match calls_port().map(calls::vast::check) {
+        Some(Ok(None)) => println!("images over 2^34 bytes: no room for one"),
+        Some(Ok(Some(n))) => println!("images of 2^34 bytes and one more: {n} calls agree"),
+        Some(Err(e)) => {
+            println!("{e}");
+            good = false;
+        }
+        None => {}
+    }
+    finish("calls", good, if calls_port().is_some() { "all agree" } else { "the oracle alone was asked" });
+}
+
 pub fn reach(seed: u64, count: u64) {
     answer::silence_panics();
     print!("{}", reach::Reach::over(seed, count).report());
@@ -83,7 +114,8 @@ pub fn reach(seed: u64, count: u64) {
 
 pub fn bench() {
     answer::silence_panics();
-    print!("{}", bench::opening(port()));
+    print!("{}", bench::opening::run(port()));
+    print!("{}", bench::calls::run(calls_port()));
 }
 
 pub fn open(files: &[String]) {

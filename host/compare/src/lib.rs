@@ -1,11 +1,13 @@
 //! The port as safe functions, and its comparison with the published Rust: leaves ([`leaf`]), the
-//! opening of containers ([`opening`]) and of volumes ([`volumes`]).
+//! opening of containers ([`opening`]) and of volumes ([`volumes`]), and the calls on volumes ([`calls`]).
 //!
 //! The comparison needs the oracle; without the published sources only [`port`], [`leaf`] and the
 //! file format of [`record`] are built.
 
 #[cfg(oracle)]
 pub mod bench;
+#[cfg(oracle)]
+pub mod calls;
 #[cfg(oracle)]
 pub mod cases;
 #[cfg(oracle)]

@@ -10,15 +10,17 @@
 //! cargo run --release -p compare -- sticks          open containers, whole and damaged
 //! cargo run --release -p compare -- sticks --seed 7 --count 20000
 //! cargo run --release -p compare -- volumes         open their volumes
+//! cargo run --release -p compare -- calls           the calls on their volumes
 //! cargo run --release -p compare -- reach           every call of the oracle on sticks, and what became of it
 //! cargo run --release -p compare -- open FILE..     open these images, and print each answer
 //! ```
 //!
 //! After `rt staticlib apfs`, with `--features apfs`, `sticks` and `open` hold the port's opening
-//! against the oracle's; without that feature they ask the oracle alone. Timings of both:
+//! against the oracle's, and with `--features calls` `calls` does the same of its calls; without
+//! these features they ask the oracle alone. Timings of both:
 //!
 //! ```text
-//! cargo run --profile speed --features apfs -p compare -- bench
+//! cargo run --profile speed --features calls -p compare -- bench
 //! ```
 //!
 //! The exit status is 0 where all agree and every kind of case was seen, 1 where not, and 2 where
@@ -35,8 +37,11 @@ use compare::record;
 
 const DEFAULT_SEED: u64 = 20_261;
 const DEFAULT_STICKS: u64 = 4000;
+/// Each stick has some 260 calls made on it, most of them twice.
+const DEFAULT_FOR_CALLS: u64 = 3000;
 const USAGE: &str =
-    "usage: compare [record FILE | replay FILE | sticks | volumes | reach | bench | open FILE..] [--seed N] [--count K]";
+    "usage: compare [record FILE | replay FILE | sticks | volumes | calls | reach | bench | open FILE..] \
+                     [--seed N] [--count K]";
 
 enum Command {
     Compare,
@@ -44,6 +49,7 @@ enum Command {
     Replay(String),
     Sticks,
     Volumes,
+    Calls,
     Reach,
     Bench,
     Open(Vec<String>),
@@ -61,7 +67,7 @@ fn stop(message: &str) -> ! {
 }
 
 fn arguments() -> Arguments {
-    let (mut seed, mut count) = (DEFAULT_SEED, DEFAULT_STICKS);
+    let (mut seed, mut count) = (DEFAULT_SEED, None);
     let mut words = Vec::new();
     let mut args = std::env::args().skip(1);
     while let Some(word) = args.next() {
@@ -71,11 +77,13 @@ fn arguments() -> Arguments {
         };
         match word.as_str() {
             "--seed" => seed = number(),
-            "--count" => count = number(),
+            "--count" => count = Some(number()),
             _ => words.push(word),
         }
     }
-    Arguments { command: command(&words), seed, count }
+    let command = command(&words);
+    let usual = if matches!(command, Command::Calls) { DEFAULT_FOR_CALLS } else { DEFAULT_STICKS };
+    Arguments { command, seed, count: count.unwrap_or(usual) }
 }
 
 fn command(words: &[String]) -> Command {
@@ -85,6 +93,7 @@ fn command(words: &[String]) -> Command {
         ["replay", file] => Command::Replay(file.into()),
         ["sticks"] => Command::Sticks,
         ["volumes"] => Command::Volumes,
+        ["calls"] => Command::Calls,
         ["reach"] => Command::Reach,
         ["bench"] => Command::Bench,
         ["open", _, ..] => Command::Open(words[1..].to_vec()),
@@ -112,6 +121,7 @@ fn main() {
         Command::Replay(file) => replay(&file),
         Command::Sticks => commands::sticks(seed, count),
         Command::Volumes => commands::volumes(seed, count),
+        Command::Calls => commands::calls(seed, count),
         Command::Reach => commands::reach(seed, count),
         Command::Bench => commands::bench(),
         Command::Open(files) => commands::open(&files),

@@ -20,6 +20,10 @@ pub fn volumes(_seed: u64, _count: u64) {
     none()
 }
 
+pub fn calls(_seed: u64, _count: u64) {
+    none()
+}
+
 pub fn reach(_seed: u64, _count: u64) {
     none()
 }

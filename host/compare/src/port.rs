@@ -1,4 +1,9 @@
-//! The functions that the port's archive exports, made safe.
+//! The functions that the port's archives export, made safe.
+
+#[cfg(feature = "calls")]
+pub use exports::calls;
+#[cfg(feature = "apfs")]
+pub use exports::open;
 
 // A slice passes as its pointer and its length.
 extern "C" {
@@ -20,19 +25,7 @@ extern "C" {
     fn leaf_read_at(image: *const u8, image_len: usize, off: u64, len: usize) -> u64;
 }
 
-#[cfg(feature = "apfs")]
-extern "C" {
-    fn apfs_open(image: *const u8, image_len: usize, out: *mut u8, out_len: usize) -> i64;
-}
-
-// Each call below lends live slices for the call's time; the port writes to `out` alone.
-
-/// The container's line, `(container BLOCK_SIZE BLOCK_COUNT XID OID ..)` and LF, in `out`; how many
-/// bytes that is, or minus the refusal's number.
-#[cfg(feature = "apfs")]
-pub fn open(image: &[u8], out: &mut [u8]) -> i64 {
-    unsafe { apfs_open(image.as_ptr(), image.len(), out.as_mut_ptr(), out.len()) }
-}
+// Each call below lends live slices for the call's time.
 
 /// The value of a field of `width` bytes (2, 4 or 8); 0 where refused, or of another width.
 pub fn number(b: &[u8], off: usize, width: usize) -> u64 {

@@ -62,6 +62,10 @@ impl Volumes {
         };
         *self.seen.entry(want).or_default() += 1;
         let got = port::volume_refused(image, i);
-        if got == want { Ok(()) } else { Err(format!("volume {i}: the oracle answers {want}, the port {got}")) }
+        if got == want {
+            Ok(())
+        } else {
+            Err(format!("volume {i}: the oracle answers {want}, the port {got}"))
+        }
     }
 }

@@ -144,9 +144,12 @@ fn attributes(v: &Volume, plan: &Contents, f: &File, reach: &mut Reach) -> Resul
         same("attribute's contents", found("attribute", v.read_xattr(x))?, want)?;
     }
     if let Some(link) = f.attributes.iter().find(|a| contents::text(&a.name) == "com.apple.fs.symlink") {
-        let Data::Embedded(target) = &link.data else { return Ok(got.len() as u64) };
+        let target = match &link.data {
+            Data::Embedded(target) => target.clone(),
+            Data::Stream { id, size } => plan.bytes(*id, *size),
+        };
         let inode = found("inode", v.inode(f.inode.id))?;
-        same("link", found("link", v.read_link(&inode))?, contents::text(target))?;
+        same("link", found("link", v.read_link(&inode))?, contents::text(&target))?;
     }
     Ok(got.len() as u64)
 }

@@ -1,5 +1,8 @@
 //! Public doors to what the published crate keeps to itself.
 
+use std::sync::Arc;
+
+use crate::btree::Node;
 use crate::bytes;
 use crate::error::{Error, Result};
 use crate::fs::{Extent, Inode, Volume};
@@ -46,6 +49,11 @@ pub fn inode(id: u64, value: &[u8]) -> Result<Inode> {
 
 pub fn extents(volume: &Volume, stream: u64) -> Result<Vec<Extent>> {
     volume.extents(stream)
+}
+
+/// A node of the volume's tree by its object id.
+pub fn tree_node(volume: &Volume, oid: u64) -> Result<Arc<Node>> {
+    volume.fs_node(oid).map(|(node, _)| node)
 }
 
 pub fn block_count(container: &Container) -> u64 {

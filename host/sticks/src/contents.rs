@@ -6,6 +6,8 @@ pub const NAME_FIELD: u8 = 4;
 pub const STREAM_FIELD: u8 = 8;
 pub const COMPRESSED: u32 = 0x20;
 pub const STREAM_FLAG: u16 = 0x1;
+/// A stream's form ends after the size; to readers the flag says nothing.
+pub const BRIEF_FLAG: u16 = 0x40;
 pub const LINK_ATTRIBUTE: &[u8] = b"com.apple.fs.symlink";
 
 /// An inode's extra field.
@@ -41,6 +43,8 @@ pub enum Key {
     Plain,
     /// Hashed, without the zero byte at the end.
     Bare,
+    /// Of a length that fits neither form.
+    Wrong,
 }
 
 #[derive(Clone, Debug)]

@@ -1,6 +1,6 @@
 //! Keys and values of a file-system tree.
 
-use crate::contents::{Attribute, Contents, Data, Entry, Extent, Field, Inode, Key, Source};
+use crate::contents::{Attribute, Contents, Data, Entry, Extent, Field, Inode, Key, Source, BRIEF_FLAG};
 use crate::disk::Disk;
 use crate::node::Record;
 use crate::sums::name_hash;
@@ -61,7 +61,7 @@ fn fields(list: &[Field]) -> Vec<u8> {
 pub fn entry(dir: u64, e: &Entry, insensitive: bool) -> Record {
     let mut k = head(dir, DIR_REC);
     let zero = usize::from(e.key != Key::Bare);
-    let length = e.name.len() + zero;
+    let length = e.name.len() + zero + if e.key == Key::Wrong { 3 } else { 0 };
     match e.key {
         Key::Plain => k.extend((length as u16).to_le_bytes()),
         _ => k.extend((length as u32 | name_hash(&e.name, insensitive) << 10).to_le_bytes()),
@@ -74,11 +74,14 @@ pub fn entry(dir: u64, e: &Entry, insensitive: bool) -> Record {
 pub fn attribute(id: u64, a: &Attribute) -> Record {
     let length = a.name.len() as u16 + 1;
     let key = join(&[&head(id, XATTR), &length.to_le_bytes(), &a.name, &[0]]);
-    let data = match &a.data {
+    let mut data = match &a.data {
         Data::Embedded(d) => d.clone(),
         // Object id, then a data stream of size, allocated size, crypto id and two counts.
-        Data::Stream { id, size } => [*id, *size, size.next_multiple_of(4096), 0, 0, 0].map(u64::to_le_bytes).concat(),
+        Data::Stream { id, size } => [*id, *size, *size & !4095, 0, 0, 0].map(u64::to_le_bytes).concat(),
     };
+    if a.flags & BRIEF_FLAG != 0 {
+        data.truncate(16);
+    }
     Record::new(key, join(&[&a.flags.to_le_bytes(), &(data.len() as u16).to_le_bytes(), &data]))
 }
 

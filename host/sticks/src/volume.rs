@@ -16,6 +16,9 @@ const NORMALIZATION_INSENSITIVE: u64 = 0x8;
 const SEALED: u64 = 0x20;
 const UNENCRYPTED: u64 = 0x1;
 
+/// Times any block size it passes 2^64.
+pub const FAR: u64 = 1 << 52;
+
 /// What is wrong with the mapping of one node of the tree.
 #[derive(Clone, Copy, Debug, PartialEq, Eq)]
 pub enum Lost {
@@ -23,6 +26,8 @@ pub enum Lost {
     Ghost,
     Encrypted,
     Missing,
+    /// Said to stand at a block whose byte's address has more than 64 bits.
+    Far,
 }
 
 #[derive(Clone, Debug)]
@@ -81,6 +86,7 @@ fn write_map(v: &Volume, mapped: &[(u64, u64)], xid: u64, disk: &mut Disk, rando
                 Lost::Ghost => m.ghost = true,
                 Lost::Encrypted => m.flags |= ENCRYPTED,
                 Lost::Missing => {}
+                Lost::Far => m.block = FAR,
             }
         }
         if lost == Lost::Missing {

@@ -1,9 +1,9 @@
 //! What the seed decides, and that every kind of thing is drawn.
 
 use sticks::checkpoint::Fault;
-use sticks::contents::{Contents, Data, Extent, Key, Source};
+use sticks::contents::{Contents, Data, Extent, Key, Source, LINK_ATTRIBUTE};
 use sticks::sums::{checksum, name_hash};
-use sticks::volume::Volume;
+use sticks::volume::{Lost, Volume};
 use sticks::{damage, damage_at, make, Aim, Plan, Stick};
 
 #[test]
@@ -13,6 +13,7 @@ fn the_seed_decides_all() {
         assert!(one == other, "stick {seed}");
         assert!(damage(&one, seed) == damage(&one, seed), "damage {seed}");
         assert!(damage_at(&one, Aim::Opening, seed) == damage_at(&one, Aim::Opening, seed), "damage {seed}");
+        assert!(damage_at(&one, Aim::Files, seed) == damage_at(&one, Aim::Files, seed), "damage {seed}");
         assert!(one != Stick::from_seed(seed + 1).image, "stick {seed}");
     }
 }
@@ -25,11 +26,21 @@ fn damage_changes_most_images() {
 }
 
 #[test]
+fn damage_of_files_leaves_most_containers_whole() {
+    let image = make(Plan::with_contents(sticks::plan::large::directories(20), 1)).image;
+    let block = |b: &[u8]| b.get(..4096).map(<[u8]>::to_vec);
+    let kept = (0..200).filter(|&seed| block(&damage_at(&image, Aim::Files, seed)) == block(&image)).count();
+    let changed = (0..200).filter(|&seed| damage_at(&image, Aim::Files, seed) != image).count();
+    assert!(kept > 180 && changed > 120, "{kept} and {changed} of 200");
+}
+
+#[test]
 fn any_bytes_can_be_damaged() {
     for n in [0, 1, 4095, 4096, 8192, 100_000] {
         for seed in 0..50 {
             damage(&vec![0xff; n], seed);
             damage_at(&vec![0; n], Aim::Opening, seed);
+            damage_at(&vec![0xff; n], Aim::Files, seed);
         }
     }
 }
@@ -144,6 +155,10 @@ fn pairs(c: &Contents) -> impl Iterator<Item = (&Extent, &Extent)> {
     c.streams.iter().flat_map(|s| s.extents.windows(2).map(|w| (&w[0], &w[1])))
 }
 
+fn overlap(a: &Extent, b: &Extent) -> bool {
+    a.logical <= b.logical && a.logical.saturating_add(a.length) > b.logical
+}
+
 fn names(c: &Contents) -> impl Iterator<Item = &[u8]> {
     c.files.iter().flat_map(|f| f.entries.iter().map(|e| &e.name[..]))
 }
@@ -162,6 +177,18 @@ fn hard_link(c: &Contents) -> bool {
     (1..ids.len()).any(|i| ids[..i].contains(&ids[i]))
 }
 
+fn links(c: &Contents) -> impl Iterator<Item = (&Contents, &Data)> {
+    let all = c.files.iter().flat_map(|f| &f.attributes).filter(|a| a.name == LINK_ATTRIBUTE);
+    all.map(move |a| (c, &a.data))
+}
+
+fn parts_a_character(c: &Contents, data: &Data) -> bool {
+    let Data::Stream { id, size } = data else { return false };
+    let text = c.bytes(*id, (*size).min(5000));
+    let Ok(text) = std::str::from_utf8(&text) else { return false };
+    c.stream(*id).iter().any(|e| !text.is_char_boundary((e.logical as usize).min(text.len())))
+}
+
 fn keys(c: &Contents, key: Key) -> bool {
     c.files.iter().any(|f| f.entries.iter().any(|e| e.key == key))
 }
@@ -178,6 +205,7 @@ fn every_kind_of_name_is_drawn() {
             ("sealed", |c| c.sealed),
             ("hashed keys", |c| keys(c, Key::Hashed)),
             ("plain keys", |c| keys(c, Key::Plain)),
+            ("keys of a wrong length", |c| keys(c, Key::Wrong)),
             ("ill-formed names", |c| names(c).any(|n| std::str::from_utf8(n).is_err())),
             ("empty names", |c| names(c).any(<[u8]>::is_empty)),
             ("zero bytes inside names", |c| names(c).any(|n| n.contains(&0))),
@@ -198,6 +226,11 @@ fn every_kind_of_file_is_drawn() {
             ("negative links", |c| c.files.iter().any(|f| f.inode.links < 0)),
             ("repeated fields", |c| c.files.iter().any(|f| f.inode.fields.windows(2).any(|w| w[0].kind == w[1].kind))),
             ("short values", |c| c.files.iter().any(|f| f.inode.fields.is_empty() && f.inode.short > 0)),
+            ("links in streams", |c| links(c).any(|(_, d)| matches!(d, Data::Stream { .. }))),
+            ("links that part within a character", |c| links(c).any(|(c, d)| parts_a_character(c, d))),
+            ("links of sizes past any image", |c| {
+                links(c).any(|(_, d)| matches!(d, Data::Stream { size: u64::MAX, .. }))
+            }),
             ("streams", |c| c.files.iter().any(|f| f.attributes.iter().any(|a| matches!(a.data, Data::Stream { .. })))),
             ("ghosts", |c| c.others.iter().any(|r| r.value.is_none())),
         ],
@@ -213,6 +246,9 @@ fn every_kind_of_extent_is_drawn() {
             ("gaps", |c| pairs(c).any(|(a, b)| a.logical + 1 < b.logical && a.length == 0)),
             ("extents of no length", |c| extents(c).any(|e| e.length == 0)),
             ("descending extents", |c| pairs(c).any(|(a, b)| a.logical > b.logical)),
+            ("equal starts", |c| pairs(c).any(|(a, b)| a.logical == b.logical)),
+            ("extents that overlap in order", |c| pairs(c).any(|(a, b)| overlap(a, b))),
+            ("none of length within another", |c| pairs(c).any(|(a, b)| overlap(a, b) && b.length == 0)),
             ("extents outside", |c| extents(c).any(|e| matches!(e.source, Source::Block(b) if b > 1 << 30))),
         ],
     );
@@ -224,6 +260,7 @@ fn every_kind_of_tree_is_drawn() {
         &volumes(),
         &[
             ("a lost node", |v| v.lost.is_some()),
+            ("a node too far", |v| v.lost == Some(Lost::Far)),
             ("records out of order", |v| v.muddled),
             ("nodes of one size", |v| v.fixed.0 > 0),
             ("a high floor", |v| v.tree.floor > 0),

@@ -1,6 +1,7 @@
 //! Spoils an image, and mends the checksums of what it touched, so that readers get past them.
 
 mod fields;
+mod records;
 mod survey;
 
 use crate::block::{get16, get32, get64, put, put16, put32, put64, seal};
@@ -14,6 +15,8 @@ pub enum Aim {
     Anywhere,
     /// What opening a container reads: block 0, the ring, the container's object map.
     Opening,
+    /// What a volume's tree holds.
+    Files,
 }
 
 pub fn damage(image: &[u8], seed: u64) -> Vec<u8> {
@@ -22,7 +25,7 @@ pub fn damage(image: &[u8], seed: u64) -> Vec<u8> {
 
 pub fn damage_at(image: &[u8], aim: Aim, seed: u64) -> Vec<u8> {
     let survey = Survey::of(image, aim);
-    let mut d = Damage { survey, image: image.to_vec(), last: None, r: Random::new(!seed) };
+    let mut d = Damage { aim, survey, image: image.to_vec(), last: None, r: Random::new(!seed) };
     for _ in 0..d.r.pick(&[1, 1, 1, 2, 3]) {
         d.once();
     }
@@ -30,6 +33,7 @@ pub fn damage_at(image: &[u8], aim: Aim, seed: u64) -> Vec<u8> {
 }
 
 struct Damage {
+    aim: Aim,
     survey: Survey,
     image: Vec<u8>,
     last: Option<u64>,
@@ -42,8 +46,14 @@ impl Damage {
             self.cut();
             return;
         }
+        if self.aim == Aim::Files && self.r.chance(4, 5) {
+            if !(self.r.chance(1, 8) && self.tail()) {
+                self.field(|b, r| records::pick(b, r).or_else(|| fields::pick(b, r)));
+            }
+            return;
+        }
         match self.r.below(36) {
-            0..=19 => self.field(),
+            0..=19 => self.field(fields::pick),
             20..=23 => self.layout(),
             24..=28 => self.anywhere(),
             29 => self.copy(),
@@ -68,13 +78,13 @@ impl Damage {
     }
 
     /// A known field gets a value at some edge.
-    fn field(&mut self) {
+    fn field(&mut self, pick: fn(&[u8], &mut Random) -> Option<Field>) {
         let block = self.block();
         let size = self.survey.block_size;
         let edges = self.survey.edges();
         let mut r = self.r.fork();
         let Some(b) = self.bytes(block) else { return };
-        let Some(f) = fields::pick(b, &mut r) else { return };
+        let Some(f) = pick(b, &mut r) else { return };
         let old = read(b, f);
         let mut choice = edges.to_vec();
         choice.extend([old.wrapping_add(1), old.wrapping_sub(1), old ^ 1 << r.below(8 * f.width as u64), r.draw()]);
@@ -114,6 +124,22 @@ impl Damage {
             _ => put(b, at / 4 * 4, &r.pick(&[0u32, 1, 0x7fff_ffff, 0x8000_0000, u32::MAX]).to_le_bytes()),
         }
         self.mend(block);
+    }
+
+    /// An extent in a block of which the image has a part; false where there is no extent.
+    fn tail(&mut self) -> bool {
+        let (block, size) = (self.block(), self.survey.block_size);
+        let last = (self.image.len() / size) as u64;
+        let mut r = self.r.fork();
+        let Some(b) = self.bytes(block) else { return false };
+        let Some(at) = records::extent(b, &mut r) else { return false };
+        let length = get64(b, at).min(2 * size as u64);
+        put64(b, at, r.pick(&[length, 100, 2000]));
+        put64(b, at + 8, last);
+        self.mend(block);
+        let n = r.pick(&[1, 50, 100, 2000, size - 1]);
+        self.image.resize(last as usize * size + n, 0x55);
+        true
     }
 
     fn copy(&mut self) {

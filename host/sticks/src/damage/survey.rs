@@ -1,7 +1,8 @@
 //! Which blocks of an image are worth spoiling.
 
-use crate::block::{get32, get64, BTREE, BTREE_NODE, CHECKPOINT_MAP, FS, NX_SUPERBLOCK, OMAP};
+use crate::block::{get16, get32, get64, BTREE, BTREE_NODE, CHECKPOINT_MAP, FS, FSTREE, NX_SUPERBLOCK, OMAP};
 use crate::damage::Aim;
+use crate::node::LEAF;
 
 const KNOWN: [u32; 6] = [NX_SUPERBLOCK, BTREE, BTREE_NODE, OMAP, CHECKPOINT_MAP, FS];
 /// Of a ring said to be longer, the rest is left alone.
@@ -36,6 +37,7 @@ impl Survey {
         match aim {
             Aim::Anywhere => s.everything(image),
             Aim::Opening => s.opening(image),
+            Aim::Files => s.files(image),
         }
         s
     }
@@ -52,6 +54,19 @@ impl Survey {
         self.blocks =
             (0..self.total).filter(|&i| KNOWN.contains(&kind(&image[i as usize * self.block_size..]))).collect();
         self.blocks.push(0);
+    }
+
+    /// Nodes of volumes' trees, leaves above all; where there are none, as everything.
+    fn files(&mut self, image: &[u8]) {
+        let is_node = |b: &[u8]| matches!(kind(b), BTREE | BTREE_NODE) && get32(b, 28) == FSTREE;
+        for i in 0..self.total {
+            let b = &image[i as usize * self.block_size..];
+            let times = if get16(b, 32) & LEAF != 0 { 3 } else { 1 };
+            self.blocks.extend(vec![i; if is_node(b) { times } else { 0 }]);
+        }
+        if self.blocks.is_empty() {
+            self.everything(image);
+        }
     }
 
     /// Block 0, each block of the ring, and what the superblocks in it name.

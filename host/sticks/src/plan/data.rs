@@ -36,17 +36,40 @@ pub fn irregular(block_size: usize, r: &mut Random) -> (Vec<Extent>, u64) {
     let (mut list, mut size) = regular(block_size, r);
     let bs = block_size as u64;
     for _ in 0..r.between(1, 3) {
-        let logical = r.pick(&[0, bs, 2 * bs, 77, u64::MAX - 10, 1 << 50]);
-        let length = r.pick(&[0, bs, 3 * bs, 5, LENGTH_MASK, u64::MAX]);
-        let block = r.pick(&[0, 1, 2, 9, 40, 5000, 1 << 40, u64::MAX - 1]);
         let at = r.place(list.len() + 1);
-        list.insert(at, Extent { logical, length, source: Source::Block(block) });
+        list.insert(at, stray(bs, r));
     }
-    if r.chance(1, 2) {
-        list.reverse();
+    match r.below(5) {
+        0 => list.reverse(),
+        1 => {}
+        _ => list.sort_by_key(|e| e.logical),
     }
-    if r.chance(1, 4) {
-        size = r.pick(&[0, 1 << 20, u64::MAX]);
+    match r.below(4) {
+        0 => size = r.pick(&[0, 1, 1 << 20, 1 << 23, 1 << 34, u64::MAX]),
+        1 => size = size.max(list.iter().map(|e| e.logical.saturating_add(e.length).min(5 * bs)).max().unwrap_or(0)),
+        _ => {}
     }
     (list, size)
+}
+
+fn stray(bs: u64, r: &mut Random) -> Extent {
+    let logical = r.pick(&[0, 1, bs, bs + 100, 2 * bs, 77, 3 * bs, u64::MAX - 10, 1 << 50]);
+    let length = r.pick(&[0, 0, bs, bs, 3 * bs, 5, LENGTH_MASK, u64::MAX]);
+    let block = r.pick(&[0, 1, 2, 3, 9, 20, 40, 500, 900, 5000, 1 << 39, 1 << 52, 1 << 52, u64::MAX - 1]);
+    Extent { logical, length, source: Source::Block(block) }
+}
+
+/// A text in extents that may part anywhere, also within a character.
+pub fn text(bytes: &[u8], block_size: usize, r: &mut Random) -> Vec<Extent> {
+    let (mut at, mut out) = (0, Vec::new());
+    while at < bytes.len() {
+        let left = bytes.len() - at;
+        let n = r.pick(&[left, 1, 2, 3, 1 + r.clone().place(left)]).min(left);
+        let mut data = bytes[at..at + n].to_vec();
+        // What follows in the block is no part of the text.
+        data.extend(vec![b'!'; n.next_multiple_of(block_size) - n]);
+        out.push(Extent { logical: at as u64, length: n as u64, source: Source::Bytes(data) });
+        at += n;
+    }
+    out
 }

@@ -1,8 +1,8 @@
 //! Files, directories, attributes and links of a volume.
 
 use crate::contents::{
-    Attribute, Contents, Data, Entry, Field, File, Inode, Key, Stream, COMPRESSED, LINK_ATTRIBUTE, NAME_FIELD,
-    STREAM_FIELD, STREAM_FLAG,
+    Attribute, Contents, Data, Entry, Field, File, Inode, Key, Stream, BRIEF_FLAG, COMPRESSED, LINK_ATTRIBUTE,
+    NAME_FIELD, STREAM_FIELD, STREAM_FLAG,
 };
 use crate::node::Record;
 use crate::plan::{data, names};
@@ -118,7 +118,12 @@ impl Maker<'_> {
         let mut attributes = Vec::new();
         match kind {
             REGULAR => self.stream(&mut inode),
-            LINK => attributes.push(self.target()),
+            LINK => {
+                for _ in 0..self.r.pick(&[1, 1, 1, 1, 1, 2]) {
+                    let a = self.target();
+                    attributes.push(a);
+                }
+            }
             _ => {}
         }
         for _ in 0..self.r.pick(&[0, 0, 0, 1, 2]) {
@@ -189,11 +194,34 @@ impl Maker<'_> {
     }
 
     fn target(&mut self) -> Attribute {
-        let mut data = names::any(self.r);
+        let mut data = names::target(self.r);
         if self.r.chance(3, 4) {
             data.push(0);
         }
-        Attribute { name: LINK_ATTRIBUTE.to_vec(), flags: 2, data: Data::Embedded(data) }
+        let name = LINK_ATTRIBUTE.to_vec();
+        if data.len() > 1500 || self.r.chance(1, 3) {
+            let (id, size) = self.text(&data);
+            return Attribute { name, flags: STREAM_FLAG | 2, data: Data::Stream { id, size } };
+        }
+        Attribute { name, flags: 2, data: Data::Embedded(data) }
+    }
+
+    /// A stream that holds a text; its id and size.
+    fn text(&mut self, text: &[u8]) -> (u64, u64) {
+        let id = self.fresh_id();
+        let mut extents = data::text(text, self.block_size, self.r);
+        let mut size = text.len() as u64;
+        if !self.c.regular && self.r.chance(1, 3) {
+            size = self.r.pick(&[0, size / 2, size + 1, 1 << 23, 1 << 40, u64::MAX]);
+        }
+        if !self.c.regular && self.r.chance(1, 6) {
+            self.r.shuffle(&mut extents);
+        }
+        if self.c.streams.iter().any(|s| s.id == id) {
+            return (id, 0);
+        }
+        self.c.streams.push(Stream { id, extents });
+        (id, size)
     }
 
     fn attribute(&mut self) -> Attribute {
@@ -201,7 +229,8 @@ impl Maker<'_> {
         if self.r.chance(1, 3) {
             let id = self.fresh_id();
             let size = self.extents(id);
-            return Attribute { name, flags: STREAM_FLAG | self.r.pick(&[0, 4]), data: Data::Stream { id, size } };
+            let flags = STREAM_FLAG | self.r.pick(&[0, 4, BRIEF_FLAG]);
+            return Attribute { name, flags, data: Data::Stream { id, size } };
         }
         let n = self.r.pick(&[0, 1, 8, 100, 1500]);
         Attribute { name, flags: self.r.pick(&[2, 2, 0, 6]), data: Data::Embedded(self.r.bytes(n)) }
@@ -227,6 +256,11 @@ impl Maker<'_> {
     fn stray(&mut self) {
         let dir = self.directory();
         self.enter(dir, 9, REGULAR);
+        if self.r.chance(1, 4) {
+            let entries = &mut self.c.files[dir].entries;
+            let at = self.r.place(entries.len());
+            entries[at].key = Key::Wrong;
+        }
         let file = self.r.place(self.c.files.len());
         self.enter(file, ROOT, REGULAR);
         let id = self.c.files[self.r.place(self.c.files.len())].inode.id;

@@ -2,15 +2,17 @@
 
 mod data;
 mod files;
+pub mod large;
 mod names;
 mod ring;
 mod shape;
 
 use crate::checkpoint::Ring;
+use crate::contents::Contents;
 use crate::random::Random;
 use crate::superblock::SLOTS;
-use crate::tree::Shape;
-use crate::volume::{Lost, Volume};
+use crate::tree::{Shape, Sizes};
+use crate::volume::{Lost, Volume, FAR};
 
 const LARGER_BLOCKS: [usize; 5] = [8192, 8192, 16384, 32768, 65536];
 
@@ -79,7 +81,7 @@ impl Plan {
             slots,
             max_file_systems,
             map: shape::map(&mut r),
-            spare: r.pick(&[0, 0, 1, 2, 1000, 1 << 40]),
+            spare: r.pick(&[0, 0, 1, 2, 1000, 1 << 40, 2 * FAR]),
             counted_blocks_present: r.chance(1, 2),
             tail: r.pick(&[0, 0, 0, 1, 511, 4095]),
             odd,
@@ -113,8 +115,33 @@ impl Plan {
         }
     }
 
+    /// A container of 4,096-byte blocks with one volume that holds this, in full nodes.
+    pub fn with_contents(contents: Contents, seed: u64) -> Plan {
+        let mut plan = Plan::with_ring(8, seed);
+        let mut r = Random::new(seed);
+        plan.map = large::dense(Sizes::Fixed, &mut r);
+        plan.volumes = vec![Volume {
+            oid: 1026,
+            contents,
+            first_node: 1000,
+            tree: large::dense(Sizes::Variable, &mut r),
+            map: large::dense(Sizes::Fixed, &mut r),
+            fixed: (0, 0),
+            lost: None,
+            muddled: false,
+            random: r.fork(),
+        }];
+        plan
+    }
+
     /// Blocks that are counted and present are few.
     fn within_reason(mut self) -> Plan {
+        if self.volumes.iter().any(|v| v.lost == Some(Lost::Far)) && !self.seed.is_multiple_of(4) {
+            self.spare = 2 * FAR;
+        }
+        if self.odd.is_some() {
+            self.spare = self.spare.min(1 << 40); // a ring past the end is to be past the image, no more
+        }
         if self.odd == Some(Odd::MapAtZero) {
             // Where an object map has the type of its tree, block 0 has the block count.
             self.spare = 0x4000_0000;
@@ -171,7 +198,7 @@ fn volume(oid: u64, block_size: usize, r: &mut Random) -> Volume {
         map: shape::map(r),
         fixed: r.pick(&[(0, 0), (0, 0), (8, 92)]),
         lost: (!regular && r.chance(1, 4))
-            .then(|| r.pick(&[Lost::Deleted, Lost::Ghost, Lost::Encrypted, Lost::Missing])),
+            .then(|| r.pick(&[Lost::Deleted, Lost::Ghost, Lost::Encrypted, Lost::Missing, Lost::Far, Lost::Far])),
         muddled: !regular && r.chance(1, 6),
         random: r.fork(),
     }

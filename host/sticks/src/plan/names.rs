@@ -61,6 +61,20 @@ pub fn any(r: &mut Random) -> Vec<u8> {
     }
 }
 
+/// What a symbolic link leads to.
+pub fn target(r: &mut Random) -> Vec<u8> {
+    let mut out = any(r);
+    for _ in 0..r.below(4) {
+        out.push(b'/');
+        out.extend(if r.chance(1, 2) { r.pick(&WIDE).as_bytes().to_vec() } else { any(r) });
+    }
+    if r.chance(1, 20) {
+        let n = r.between(1, 5000);
+        out.extend(ascii(n, r));
+    }
+    out
+}
+
 pub fn attribute(r: &mut Random) -> Vec<u8> {
     match r.below(6) {
         0 => b"com.apple.FinderInfo".to_vec(),

@@ -1,0 +1,135 @@
+//! The command line tool on small images.
+
+#![cfg(feature = "calls")]
+
+use std::io::Read;
+use std::path::{Path, PathBuf};
+use std::process::{Command, Output, Stdio};
+
+use sticks::contents::{Contents, Source};
+use sticks::plan::large;
+use sticks::random::Random;
+use sticks::{make, Plan};
+
+const SIZE: u64 = 300_000;
+
+/// An image in a file that goes with the value.
+struct Image(PathBuf);
+
+impl Image {
+    fn of(name: &str, bytes: &[u8]) -> Image {
+        let file = Path::new(env!("CARGO_TARGET_TMPDIR")).join(format!("{name}-{}.img", std::process::id()));
+        std::fs::write(&file, bytes).expect("an image");
+        Image(file)
+    }
+
+    fn holding(name: &str, contents: Contents) -> Image {
+        Image::of(name, &make(Plan::with_contents(contents, 3)).image)
+    }
+
+    fn run(&self, words: &[&str], path: &[&str]) -> Output {
+        let mut command = Command::new(env!("CARGO_BIN_EXE_apfs"));
+        command.args(words).arg(&self.0).args(path).output().expect("the tool")
+    }
+}
+
+impl Drop for Image {
+    fn drop(&mut self) {
+        let _ = std::fs::remove_file(&self.0);
+    }
+}
+
+fn out(o: Output) -> String {
+    assert!(o.status.success() && o.stderr.is_empty(), "{o:?}");
+    String::from_utf8(o.stdout).expect("text")
+}
+
+fn refused(o: Output, number: u64) {
+    assert_eq!((o.status.code(), o.stdout.len()), (Some(1), 0), "{o:?}");
+    let words = String::from_utf8_lossy(&o.stderr).into_owned();
+    assert!(words.contains(&format!("(refusal {number})")) && words.starts_with("apfs: "), "{words}");
+}
+
+fn file() -> (Contents, Vec<u8>) {
+    let contents = large::file(SIZE, 7, 4096, &mut Random::new(1));
+    let bytes = contents.bytes(100, SIZE);
+    assert!(contents.streams[0].extents.iter().all(|e| matches!(e.source, Source::Bytes(_))));
+    (contents, bytes)
+}
+
+#[test]
+fn directories_are_listed() {
+    let image = Image::holding("ls", large::directories(3));
+    let mut lines: Vec<String> = out(image.run(&["ls"], &[])).lines().map(String::from).collect();
+    lines.sort();
+    assert_eq!(
+        lines,
+        ["dir                 - next", "file                0 entry-000001", "file                0 entry-000002"]
+    );
+    assert_eq!(out(image.run(&["ls"], &["NEXT\\next"])).lines().count(), 3);
+    assert_eq!(out(image.run(&["ls"], &["next/next/last"])), "file                0 next/next/last\n");
+}
+
+#[test]
+fn sizes_are_the_files_own() {
+    let image = Image::holding("size", file().0);
+    assert_eq!(out(image.run(&["ls"], &["/"])), "file           300000 data\n");
+    let stat = out(image.run(&["stat"], &["data"]));
+    for line in ["id               100", "kind             file", "mode             0755", "size             300000"] {
+        assert!(stat.lines().any(|l| l == line), "{line} in {stat}");
+    }
+    let root = out(image.run(&["stat"], &[]));
+    assert!(root.starts_with("id               2\n") && root.contains("kind             dir\n"), "{root}");
+}
+
+#[test]
+fn bytes_are_written() {
+    let (contents, bytes) = file();
+    let image = Image::holding("cat", contents);
+    let o = image.run(&["cat"], &["/data"]);
+    assert!(o.status.success() && o.stdout == bytes);
+}
+
+#[test]
+fn refusals_have_words_and_a_number() {
+    let image = Image::holding("refused", file().0);
+    refused(image.run(&["ls"], &["nowhere"]), 4);
+    refused(image.run(&["--volume", "1", "stat"], &[]), 4);
+    refused(Image::of("empty", b"").run(&["ls"], &[]), 1);
+    refused(Image::of("none", &[0; 8192]).run(&["ls"], &[]), 4);
+    let o = image.run(&["cat"], &["/"]);
+    assert_eq!(o.status.code(), Some(1), "{o:?}");
+}
+
+#[cfg(unix)]
+#[test]
+fn a_path_of_any_bytes_is_handed_on() {
+    use std::os::unix::ffi::OsStrExt;
+    let image = Image::holding("path", file().0);
+    let path = std::ffi::OsStr::from_bytes(b"a\xff");
+    let o = Command::new(env!("CARGO_BIN_EXE_apfs")).arg("stat").arg(&image.0).arg(path).output();
+    refused(o.expect("the tool"), 5);
+}
+
+#[test]
+fn wrong_arguments_are_told() {
+    let image = Image::of("arguments", b"");
+    for words in [&["cat"][..], &["list"], &["--volume", "x", "ls"], &["--volume"]] {
+        let o = image.run(words, &[]);
+        assert_eq!(o.status.code(), Some(2), "{words:?} {o:?}");
+        assert!(String::from_utf8_lossy(&o.stderr).starts_with("usage:"));
+    }
+}
+
+#[test]
+fn a_closed_pipe_ends_quietly() {
+    let image = Image::holding("pipe", large::file(4 * SIZE, 3, 4096, &mut Random::new(2)));
+    let mut command = Command::new(env!("CARGO_BIN_EXE_apfs"));
+    command.args(["cat"]).arg(&image.0).arg("data").stdout(Stdio::piped()).stderr(Stdio::piped());
+    let mut child = command.spawn().expect("the tool");
+    let mut pipe = child.stdout.take().expect("a pipe");
+    pipe.read_exact(&mut [0; 10]).expect("some bytes");
+    drop(pipe);
+    let o = child.wait_with_output().expect("an end");
+    assert!(o.status.success() && o.stderr.is_empty(), "{o:?}");
+}

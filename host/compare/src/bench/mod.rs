@@ -1,0 +1,61 @@
+//! How long calls take, by the port and by the oracle.
+
+pub mod calls;
+pub mod opening;
+
+use std::fmt::Write as _;
+use std::time::{Duration, Instant};
+
+const ROUNDS: u128 = 41;
+/// A round makes as many calls as take at least this long by the oracle.
+const ROUND: Duration = Duration::from_millis(4);
+/// Fewer rounds where they would take longer than this by the oracle.
+const ALL: Duration = Duration::from_secs(2);
+
+type Timed<'f> = &'f mut dyn FnMut();
+
+fn time(times: u32, f: Timed) -> Duration {
+    let start = Instant::now();
+    (0..times).for_each(|_| f());
+    start.elapsed() / times
+}
+
+fn median(mut all: Vec<Duration>) -> Duration {
+    all.sort();
+    all[all.len() / 2]
+}
+
+fn ratio(ours: Duration, oracle: Duration) -> f64 {
+    ours.as_secs_f64() / oracle.as_secs_f64()
+}
+
+/// A line with the medians: the oracle's first, then those of the others with their ratio to it, or
+/// it to them.
+fn line<'f>(what: &str, oracle: Timed<'f>, warm: Option<Timed<'f>>, ours: Option<Timed<'f>>) -> String {
+    let once = time(3, oracle).max(Duration::from_nanos(1));
+    let times = (ROUND.as_nanos() / once.as_nanos()).clamp(1, 10_000) as u32;
+    let rounds = (ALL.as_nanos() / (once * times).as_nanos().max(1)).clamp(5, ROUNDS);
+    let mut runs: Vec<Timed> = vec![oracle];
+    let (has_warm, has_ours) = (warm.is_some(), ours.is_some());
+    runs.extend(warm);
+    runs.extend(ours);
+    let mut found = vec![Vec::new(); runs.len()];
+    // In turn, so that all meet the same weather.
+    for _ in 0..rounds {
+        for (run, found) in runs.iter_mut().zip(&mut found) {
+            found.push(time(times, *run));
+        }
+    }
+    let medians: Vec<Duration> = found.into_iter().map(median).collect();
+    let mut out = format!("{what}: oracle {:>10.2?}", medians[0]);
+    let ours = medians.last().copied().filter(|_| has_ours);
+    if let Some(ours) = ours {
+        write!(out, ", port {ours:>10.2?}, port/oracle {:.2}", ratio(ours, medians[0])).unwrap();
+    }
+    if has_warm {
+        write!(out, "; opened before, oracle {:>10.2?}", medians[1]).unwrap();
+        let ours = ours.map_or(String::new(), |ours| format!(", port/oracle {:.2}", ratio(ours, medians[1])));
+        out += &ours;
+    }
+    out + "\n"
+}

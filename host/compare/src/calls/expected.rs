@@ -1,0 +1,202 @@
+//! What a call must answer: by the oracle, or by document 01 where the oracle can't tell.
+
+use std::sync::Arc;
+
+use oracle::error::Error;
+use oracle::fs::{Extent, Inode, Volume};
+use oracle::nx::Container;
+use oracle::probe;
+
+use crate::calls::call::Call;
+use crate::calls::{line, names, stream};
+use crate::opening::answer::{self, caught};
+use crate::opening::outside::outside;
+
+const CORRUPT: u64 = 2;
+const PATH_NOT_UTF8: u64 = 5;
+const TOO_SHORT: u64 = 6;
+const OVERFLOW: u64 = 8;
+
+#[derive(Clone, Debug, PartialEq, Eq)]
+pub enum Answer {
+    Bytes(Vec<u8>),
+    Refused(u64),
+    /// Whatever is a refusal or an answer within the buffer.
+    Any,
+    /// The oracle stopped, and not for an overflow.
+    Panic(String),
+}
+
+/// How an answer is counted.
+#[derive(Clone, Copy, Debug, PartialEq, Eq, PartialOrd, Ord)]
+pub enum Kind {
+    Answered(&'static str),
+    Refused(u64),
+    /// A refusal by document 01, outside the comparison's domain.
+    Added(u64),
+    /// An answer by document 01, outside the comparison's domain.
+    Told(&'static str),
+    /// Neither tells.
+    Open(&'static str),
+}
+
+#[derive(Clone, Debug, PartialEq, Eq)]
+pub struct Expected {
+    pub answer: Answer,
+    pub kind: Kind,
+}
+
+/// Why there is no answer in bytes.
+pub enum Stop {
+    Oracle(Error),
+    Added(u64),
+    Open(&'static str),
+}
+
+impl From<Error> for Stop {
+    fn from(e: Error) -> Stop {
+        Stop::Oracle(e)
+    }
+}
+
+type Told = Result<(Vec<u8>, Kind), Stop>;
+
+impl From<Told> for Expected {
+    fn from(told: Told) -> Expected {
+        let (answer, kind) = match told {
+            Ok((bytes, kind)) => (Answer::Bytes(bytes), kind),
+            Err(Stop::Oracle(e)) => (Answer::Refused(probe::class(&e)), Kind::Refused(probe::class(&e))),
+            Err(Stop::Added(n)) => (Answer::Refused(n), Kind::Added(n)),
+            Err(Stop::Open(why)) => (Answer::Any, Kind::Open(why)),
+        };
+        Expected { answer, kind }
+    }
+}
+
+fn answered(text: impl Into<Vec<u8>>, kind: &'static str) -> Told {
+    Ok((text.into(), Kind::Answered(kind)))
+}
+
+/// A panic's account. Once a container is open, every sum that overflows is one that document 01 refuses.
+fn stopped(a: answer::Answer, opened: bool) -> Expected {
+    match a {
+        answer::Answer::Overflow if opened => Err(Stop::Added(OVERFLOW)).into(),
+        answer::Answer::Overflow => Err(Stop::Open("overflow in opening")).into(),
+        other => Expected { answer: Answer::Panic(other.to_string()), kind: Kind::Open("panic") },
+    }
+}
+
+/// Of an image that nothing is known of.
+pub fn of_image(image: &Arc<Vec<u8>>, volume: u64, call: &Call) -> Expected {
+    if outside(image).is_some() {
+        return Err(Stop::Open("ring or maps too large")).into();
+    }
+    match caught(|| answer::container(image)) {
+        Ok(Ok(c)) => of_container(image, &c, volume, call),
+        Ok(Err(e)) => Err(Stop::Oracle(e)).into(),
+        Err(a) => stopped(a, false),
+    }
+}
+
+pub fn of_container(image: &[u8], c: &Container, volume: u64, call: &Call) -> Expected {
+    match caught(|| c.volume(volume as usize)) {
+        Ok(Ok(v)) => of_volume(image, c, &v, call),
+        Ok(Err(e)) => Err(Stop::Oracle(e)).into(),
+        Err(a) => stopped(a, true),
+    }
+}
+
+pub fn of_volume(image: &[u8], c: &Container, v: &Volume, call: &Call) -> Expected {
+    let told = caught(|| match call {
+        Call::Lookup { path } => lookup(v, path),
+        Call::Read { id, offset, length } => read(v, *id, *offset, *length),
+        Call::Entry { id, place } => entry(v, *id, *place),
+        Call::Xattr { id, place } => xattr(image, c, v, *id, *place),
+        Call::Link { id } => link(image, c, v, *id),
+        Call::Extent { id, place } => extent(v, *id, *place),
+    });
+    told.map_or_else(|a| stopped(a, true), Expected::from)
+}
+
+fn at<T>(list: &[T], place: u64) -> Option<&T> {
+    usize::try_from(place).ok().and_then(|i| list.get(i))
+}
+
+fn lookup(v: &Volume, path: &[u8]) -> Told {
+    let path = std::str::from_utf8(path).map_err(|_| Stop::Added(PATH_NOT_UTF8))?;
+    let kind = match names::followed(v, path) {
+        Err(Stop::Added(n)) => return Err(Stop::Added(n)),
+        followed => followed.unwrap_or("not followed"),
+    };
+    answered(line::node(&v.lookup_path(path)?), kind)
+}
+
+fn read(v: &Volume, id: u64, offset: u64, length: usize) -> Told {
+    let inode = v.inode(id)?;
+    let extents = v.file_extents(&inode)?;
+    if extents.windows(2).any(|w| w[0].logical > w[1].logical) {
+        return Err(Stop::Added(CORRUPT));
+    }
+    let mut bytes = vec![0; length];
+    let n = v.read_at(&inode, offset, &mut bytes)?;
+    bytes.truncate(n);
+    answered(bytes, read_kind(&inode, &extents, offset, n as u64))
+}
+
+fn read_kind(inode: &Inode, extents: &[Extent], offset: u64, n: u64) -> &'static str {
+    let size = inode.dstream.map_or(0, |d| d.size);
+    let end = offset.saturating_add(n);
+    let met = |e: &&Extent| e.logical < end && e.logical.saturating_add(e.len) > offset && e.phys_block != 0;
+    match extents.iter().filter(met).count() {
+        _ if n == 0 && offset >= size => "at or past the end",
+        _ if n == 0 => "into no buffer",
+        0 => "zeros alone",
+        1 => "of one extent",
+        _ => "of several extents",
+    }
+}
+
+fn entry(v: &Volume, id: u64, place: u64) -> Told {
+    match at(&v.read_dir(id)?, place) {
+        Some(e) => answered(line::entry(e), "entry"),
+        None => answered("", "past the end"),
+    }
+}
+
+fn xattr(image: &[u8], c: &Container, v: &Volume, id: u64, place: u64) -> Told {
+    let list = v.xattrs(id)?;
+    let Some(x) = at(&list, place) else { return answered("", "past the end") };
+    match stream::data(image, c, v, x)? {
+        stream::Data::Whole(data) => answered(line::attribute(x, &data), stored(x)),
+        stream::Data::Long(_) => Err(Stop::Added(TOO_SHORT)),
+    }
+}
+
+fn stored(x: &oracle::fs::Xattr) -> &'static str {
+    match x.data {
+        oracle::fs::XattrData::Embedded(_) => "embedded",
+        oracle::fs::XattrData::Stream { .. } => "stream",
+    }
+}
+
+fn link(image: &[u8], c: &Container, v: &Volume, id: u64) -> Told {
+    const ATTRIBUTE: &str = "com.apple.fs.symlink";
+    let inode = v.inode(id)?;
+    let x = v.xattr(id, ATTRIBUTE)?;
+    let Some(x) = x else { return answered(v.read_link(&inode)?, "without an attribute") };
+    match stream::data(image, c, v, &x)? {
+        stream::Data::Whole(_) => answered(v.read_link(&inode)?, stored(&x)),
+        stream::Data::Long(first) if first.contains(&0) => {
+            Ok((probe::cstr(&first).into_bytes(), Kind::Told("long stream")))
+        }
+        stream::Data::Long(_) => Err(Stop::Open("long text")),
+    }
+}
+
+fn extent(v: &Volume, id: u64, place: u64) -> Told {
+    let list = v.file_extents(&v.inode(id)?)?;
+    match at(&list, place) {
+        Some(e) => answered(line::extent(e), if e.phys_block == 0 { "hole" } else { "extent" }),
+        None => answered("", "past the end"),
+    }
+}

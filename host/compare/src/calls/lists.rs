@@ -1,0 +1,31 @@
+//! All that the oracle's calls give of one id, as far as they give it.
+
+use oracle::error::Result;
+use oracle::fs::{DirEntry, Extent, Inode, Volume, Xattr};
+
+use crate::opening::answer::caught;
+
+#[derive(Default)]
+pub struct Lists {
+    pub inode: Option<Inode>,
+    pub entries: Option<Vec<DirEntry>>,
+    pub xattrs: Option<Vec<Xattr>>,
+    pub extents: Option<Vec<Extent>>,
+}
+
+fn given<T>(f: impl FnOnce() -> Result<T>) -> Option<T> {
+    caught(f).ok().and_then(|r| r.ok())
+}
+
+impl Lists {
+    pub fn of(v: &Volume, id: u64) -> Lists {
+        let inode = given(|| v.inode(id));
+        let extents = inode.as_ref().and_then(|i| given(|| v.file_extents(i)));
+        Lists { inode, entries: given(|| v.read_dir(id)), xattrs: given(|| v.xattrs(id)), extents }
+    }
+
+    /// 0 without a data stream.
+    pub fn size(&self) -> u64 {
+        self.inode.as_ref().and_then(|i| i.dstream).map_or(0, |d| d.size)
+    }
+}

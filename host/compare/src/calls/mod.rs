@@ -1,0 +1,35 @@
+//! Calls on volumes: lookups, reads and lists on sticks drawn from a seed, whole and damaged, by the
+//! oracle and the port.
+
+pub mod call;
+pub mod check;
+pub mod draw;
+pub mod expected;
+pub mod line;
+pub mod lists;
+pub mod met;
+pub mod names;
+pub mod run;
+pub mod stream;
+pub mod tally;
+pub mod vast;
+
+use call::Call;
+
+/// The port or a stand-in, on an image and the volume of that index: how many bytes were written, or
+/// minus the refusal's number.
+pub type Port<'p> = &'p dyn Fn(&[u8], u64, &Call, &mut [u8]) -> i64;
+
+/// The port itself.
+#[cfg(feature = "calls")]
+pub fn port(image: &[u8], volume: u64, call: &Call, out: &mut [u8]) -> i64 {
+    use crate::port::calls;
+    match call {
+        Call::Lookup { path } => calls::lookup(image, volume, path, out),
+        Call::Read { id, offset, .. } => calls::read(image, volume, *id, *offset, out),
+        Call::Entry { id, place } => calls::entry(image, volume, *id, *place, out),
+        Call::Xattr { id, place } => calls::xattr(image, volume, *id, *place, out),
+        Call::Link { id } => calls::link(image, volume, *id, out),
+        Call::Extent { id, place } => calls::extent(image, volume, *id, *place, out),
+    }
+}

@@ -1,0 +1,193 @@
+//! A run over many sticks.
+
+use std::path::Path;
+use std::sync::Arc;
+
+use oracle::nx::Container;
+use oracle::probe;
+use sticks::contents::Contents;
+use sticks::random::Random;
+use sticks::{damage_at, Aim, Stick};
+
+use crate::calls::call::Call;
+use crate::calls::check::Subject;
+use crate::calls::expected::{self, Answer, Expected};
+use crate::calls::lists::Lists;
+use crate::calls::met::Met;
+use crate::calls::tally::Tally;
+use crate::calls::{draw, Port};
+use crate::opening::answer::{self, caught};
+use crate::opening::outside::outside;
+use crate::opening::run::stick_seed;
+use crate::opening::shrink::shrink;
+
+/// How often each stick is damaged.
+const DAMAGES: u64 = 4;
+/// Of a damaged superblock's volumes, no more are asked about.
+const VOLUMES: u64 = 5;
+
+pub struct Mismatch {
+    pub volume: u64,
+    pub call: Call,
+    pub expected: Expected,
+    pub got: String,
+}
+
+pub struct Failure {
+    pub seed: u64,
+    /// The stick's place in the run.
+    pub stick: u64,
+    /// Which damage, from 1; 0 for the stick as it was made.
+    pub damage: u64,
+    pub mismatch: Box<Mismatch>,
+    pub image: Arc<Vec<u8>>,
+}
+
+#[derive(Default)]
+pub struct Run {
+    pub images: u64,
+    pub tally: Tally,
+    pub met: Met,
+    pub failure: Option<Failure>,
+}
+
+type Checked = Result<(), Box<Mismatch>>;
+
+/// In three cases of four what the volumes' trees hold is spoiled.
+pub fn damaged(image: &[u8], seed: u64, k: u64) -> Vec<u8> {
+    let aim = if k == DAMAGES { Aim::Anywhere } else { Aim::Files };
+    damage_at(image, aim, seed.wrapping_mul(DAMAGES).wrapping_add(k))
+}
+
+impl Run {
+    /// Over `count` sticks; without a port the oracle is asked alone. Stops at the first failure.
+    pub fn over(seed: u64, count: u64, port: Option<Port>) -> Run {
+        let mut run = Run::default();
+        // The last image is kept until there is a next one, so that two in a row never have one address.
+        let mut kept = Arc::default();
+        for i in 0..count {
+            let whole = Stick::from_seed(stick_seed(seed, i));
+            for k in 0..=DAMAGES {
+                let of = whole.plan.seed;
+                let image = if k == 0 { whole.image.clone() } else { damaged(&whole.image, of, k) };
+                let random = Random::new(of.wrapping_mul(31).wrapping_add(k));
+                let (tally, met) = (&mut run.tally, &mut run.met);
+                let mut trial = Trial { image: Arc::new(image), port, random, tally, met };
+                let checked = trial.stick(&whole);
+                let before = std::mem::replace(&mut kept, trial.image);
+                drop(before);
+                run.images += 1;
+                if let Err(mismatch) = checked {
+                    let image = kept;
+                    run.failure = Some(Failure { seed, stick: i, damage: k, mismatch, image });
+                    return run;
+                }
+            }
+        }
+        run
+    }
+
+    /// Prints the failure, if there was one, and writes its image, made smaller, to a file in `folder`.
+    pub fn report_failure(&self, port: Option<Port>, folder: &Path) -> bool {
+        let Some(f) = &self.failure else { return false };
+        let m = &f.mismatch;
+        let file = folder.join(format!("calls-{}-{}-{}.img", f.seed, f.stick, f.damage));
+        println!("seed {}, stick {}, damage {}, volume {}: {}", f.seed, f.stick, f.damage, m.volume, m.call);
+        println!("expected: {}\nthe port: {}", shown(&m.expected), m.got);
+        let image = smaller(&f.image, m, port);
+        match std::fs::create_dir_all(folder).and_then(|()| std::fs::write(&file, &image)) {
+            Ok(()) => println!("{} bytes that show it: {}", image.len(), file.display()),
+            Err(e) => println!("{}: {e}", file.display()),
+        }
+        true
+    }
+}
+
+fn shown(e: &Expected) -> String {
+    match &e.answer {
+        Answer::Bytes(b) => {
+            format!("{} bytes, \"{}\" ({})", b.len(), b[..b.len().min(300)].escape_ascii(), e.kind)
+        }
+        _ => e.kind.to_string(),
+    }
+}
+
+/// The image with all gone that the failure, of the same kind, can do without.
+fn smaller(image: &Arc<Vec<u8>>, m: &Mismatch, port: Option<Port>) -> Vec<u8> {
+    let Some(port) = port else { return image.to_vec() };
+    let fails = |b: &[u8]| {
+        let want = expected::of_image(&Arc::new(b.to_vec()), m.volume, &m.call);
+        let subject = Subject { port, image: b, volume: m.volume, call: &m.call };
+        want.kind == m.expected.kind && (0..8).any(|k| subject.check(&want, &mut Random::new(k)).is_err())
+    };
+    if fails(image) {
+        shrink(image.to_vec(), &fails)
+    } else {
+        image.to_vec()
+    }
+}
+
+/// One image, asked about.
+struct Trial<'a> {
+    image: Arc<Vec<u8>>,
+    port: Option<Port<'a>>,
+    random: Random,
+    tally: &'a mut Tally,
+    met: &'a mut Met,
+}
+
+impl Trial<'_> {
+    fn stick(&mut self, whole: &Stick) -> Checked {
+        let image = Arc::clone(&self.image);
+        let opened = if outside(&image).is_some() { None } else { caught(|| answer::container(&image)).ok() };
+        let Some(Ok(c)) = opened else { return self.each(0) };
+        let slots = (c.sb.fs_oids.len() as u64).min(VOLUMES);
+        for i in 0..slots {
+            let plan = whole.plan.volumes.get(i as usize).or(whole.plan.volumes.first());
+            match plan {
+                Some(plan) => self.volume(&c, i, &plan.contents)?,
+                None => self.each(i)?,
+            }
+        }
+        let none = self.random.pick(&[slots, u64::MAX]);
+        self.each(none)
+    }
+
+    /// One call of each kind on what may be no volume.
+    fn each(&mut self, volume: u64) -> Checked {
+        let image = Arc::clone(&self.image);
+        for call in draw::each(&mut self.random) {
+            let want = expected::of_image(&image, volume, &call);
+            self.judge(volume, call, want)?;
+        }
+        Ok(())
+    }
+
+    fn volume(&mut self, c: &Container, i: u64, plan: &Contents) -> Checked {
+        let Ok(Ok(v)) = caught(|| c.volume(i as usize)) else { return self.each(i) };
+        let image = Arc::clone(&self.image);
+        for call in draw::lookups(plan, &mut self.random) {
+            let want = expected::of_volume(&image, c, &v, &call);
+            self.judge(i, call, want)?;
+        }
+        for id in draw::ids(plan, &mut self.random) {
+            let lists = Lists::of(&v, id);
+            self.met.count(&lists, probe::block_count(c), c.block_size().into());
+            for call in draw::on(&lists, id, c.block_size().into(), &mut self.random) {
+                let want = expected::of_volume(&image, c, &v, &call);
+                self.judge(i, call, want)?;
+            }
+        }
+        Ok(())
+    }
+
+    fn judge(&mut self, volume: u64, call: Call, want: Expected) -> Checked {
+        self.tally.count(&call, want.kind);
+        let checked = match (self.port, &want.answer) {
+            (Some(port), _) => Subject { port, image: &self.image, volume, call: &call }.check(&want, &mut self.random),
+            (None, Answer::Panic(m)) => Err(format!("the oracle panicked: {m}")),
+            (None, _) => Ok(()),
+        };
+        checked.map_err(|got| Box::new(Mismatch { volume, call, expected: want, got }))
+    }
+}

@@ -1,0 +1,38 @@
+//! Images about 2^34 bytes long, all zeros: one byte more is refused before anything is read.
+
+use std::alloc::{alloc_zeroed, dealloc, Layout};
+
+use crate::calls::check::Subject;
+use crate::calls::draw;
+use crate::calls::expected::{Answer, Expected, Kind};
+use crate::calls::Port;
+use sticks::random::Random;
+
+const LARGEST: usize = 1 << 34;
+const NO_CONTAINER: u64 = 4;
+const TOO_LARGE: u64 = 7;
+
+/// How many calls agreed; none where so much memory, though hardly touched, is not to be had.
+pub fn check(port: Port) -> Result<Option<u64>, String> {
+    let layout = Layout::array::<u8>(LARGEST + 1).expect("a layout");
+    // Zeroed memory of this size is given out page by page, when first touched.
+    let memory = unsafe { alloc_zeroed(layout) };
+    if memory.is_null() {
+        return Ok(None);
+    }
+    let all = unsafe { std::slice::from_raw_parts(memory, LARGEST + 1) };
+    let agreed = on(port, &all[..LARGEST], NO_CONTAINER).and_then(|n| Ok(n + on(port, all, TOO_LARGE)?));
+    unsafe { dealloc(memory, layout) };
+    agreed.map(Some)
+}
+
+fn on(port: Port, image: &[u8], number: u64) -> Result<u64, String> {
+    let mut random = Random::new(number);
+    let want = Expected { answer: Answer::Refused(number), kind: Kind::Added(number) };
+    let calls = draw::each(&mut random);
+    for call in &calls {
+        let checked = Subject { port, image, volume: 0, call }.check(&want, &mut random);
+        checked.map_err(|e| format!("an image of {} bytes, {call}: {e}", image.len()))?;
+    }
+    Ok(calls.len() as u64)
+}

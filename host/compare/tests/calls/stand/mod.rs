@@ -1,0 +1,128 @@
+//! A port's calls on a volume, with one mistake or none.
+
+mod files;
+pub mod mistake;
+mod paths;
+mod records;
+mod tree;
+
+use std::cell::RefCell;
+use std::sync::Arc;
+
+use compare::calls::call::Call;
+use compare::calls::line::hex;
+use compare::opening::answer::{self, caught};
+use compare::opening::outside::outside;
+use mistake::Mistake;
+use oracle::error::Error;
+use oracle::fs::Volume;
+use oracle::nx::Container;
+use oracle::probe;
+use Mistake as M;
+
+/// A value, or the refusal's number.
+pub type Answer<T> = Result<T, i64>;
+
+pub fn test(good: bool, refusal: i64) -> Answer<()> {
+    if good {
+        Ok(())
+    } else {
+        Err(refusal)
+    }
+}
+
+fn class(e: Error) -> i64 {
+    probe::class(&e) as i64
+}
+
+pub struct Stand<'a> {
+    pub image: &'a [u8],
+    pub c: &'a Container,
+    pub v: &'a Volume<'a>,
+    pub m: Mistake,
+}
+
+impl Stand<'_> {
+    pub fn has(&self, m: Mistake) -> bool {
+        self.m == m
+    }
+
+    pub fn hex(&self, b: &[u8]) -> String {
+        let text = hex(b);
+        if self.has(M::UpperHex) {
+            text.to_uppercase()
+        } else {
+            text
+        }
+    }
+
+    fn bytes(&self, call: &Call, out: &[u8]) -> Answer<Vec<u8>> {
+        match call {
+            Call::Lookup { path } => self.lookup(path),
+            Call::Read { id, offset, .. } => self.read(*id, *offset, out),
+            Call::Entry { id, place } => self.entry(*id, *place),
+            Call::Xattr { id, place } => self.xattr(*id, *place),
+            Call::Link { id } => self.link(*id),
+            Call::Extent { id, place } => self.extent(*id, *place),
+        }
+    }
+}
+
+/// The last image's address and length, and its container, as many calls follow on one image. A run
+/// has no two in a row at one address.
+pub type Last = RefCell<Option<(*const u8, usize, Answer<Container>)>>;
+
+fn open(image: &[u8]) -> Answer<Container> {
+    let image = Arc::new(image.to_vec());
+    let c = if outside(&image).is_some() { Ok(Err(1)) } else { caught(|| answer::container(&image).map_err(class)) };
+    c.unwrap_or(Err(8))
+}
+
+fn bytes(c: &Answer<Container>, image: &[u8], volume: u64, call: &Call, out: &[u8], m: Mistake) -> Answer<Vec<u8>> {
+    let c = c.as_ref().map_err(|n| *n)?;
+    let overflow = if m == M::OverflowAsCorrupt { 2 } else { 8 };
+    caught(|| {
+        let v = c.volume(volume as usize).map_err(class)?;
+        Stand { image, c, v: &v, m }.bytes(call, out)
+    })
+    .unwrap_or(Err(overflow))
+}
+
+pub fn answer(last: &Last, image: &[u8], volume: u64, call: &Call, out: &mut [u8], m: Mistake) -> i64 {
+    if let (M::FiveFirst, Call::Lookup { path }) = (m, call) {
+        if std::str::from_utf8(path).is_err() {
+            return -5;
+        }
+    }
+    let of = (image.as_ptr(), image.len());
+    let mut last = last.borrow_mut();
+    let opened = match last.take() {
+        Some((at, n, c)) if (at, n) == of => c,
+        _ => open(image),
+    };
+    let found = bytes(&opened, image, volume, call, out, m);
+    *last = Some((of.0, of.1, opened));
+    finish(found, matches!(call, Call::Read { .. }), out, m)
+}
+
+fn finish(found: Answer<Vec<u8>>, read: bool, out: &mut [u8], m: Mistake) -> i64 {
+    let short = |n: usize| !read && n + usize::from(m == M::ShortByOne && n > 0) > out.len();
+    match found {
+        Err(_) if m == M::ShortFirst && out.is_empty() && !read => -6,
+        Err(n) => {
+            if m == M::Wiped {
+                out.fill(0);
+            }
+            -n
+        }
+        Ok(b) if short(b.len()) => -6,
+        Ok(b) => {
+            let n = b.len();
+            out[..n].copy_from_slice(&b);
+            if (m == M::OnePast && out.len() > n) || (m == M::ZeroedPast && read) {
+                out[n..].fill(0);
+            }
+            n as i64
+        }
+    }
+}
