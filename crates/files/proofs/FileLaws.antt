@@ -29,7 +29,7 @@ use Rattle.files.specs.Judge.{judgeOf, Decided}
 use Rattle.files.specs.Filled.{filled}
 use Rattle.files.specs.File.{sizeOf, packed, readOver, readFile, stopOf, readTold}
 use Rattle.files.specs.declared.verdict.Ruling.the-variants.{Fine, No}
-use Rattle.files.specs.declared.judge.Judged.{Judged}
+use Rattle.files.specs.declared.deciding.Judged.{Judged}
 use Rattle.files.specs.declared.read.FileRead.{FileRead}
 use Rattle.files.proofs.Verdicts.{le-or-gt, passed, went, assoc}
 use Rattle.files.proofs.ReadLaws.{seek-takes, seek-stays}

@@ -18,7 +18,7 @@ use Rattle.files.specs.Read.{Disk, start, chain, seek, allows, decide}
 use Rattle.files.specs.Judge.{touches, judgeOf, OneMore, closing}
 use Rattle.files.specs.declared.verdict.Ruling.{Ruling}
 use Rattle.files.specs.declared.verdict.Ruling.the-variants.{Fine, No}
-use Rattle.files.specs.declared.judge.Judging.{Judging}
+use Rattle.files.specs.declared.deciding.Judging.{Judging}
 use Rattle.files.proofs.Verdicts.{le-or-gt, passed, assoc}
 use Rattle.files.proofs.ReadLaws.{decide-stop, decide-goes, seek-takes, seek-stays}
 

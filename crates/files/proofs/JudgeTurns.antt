@@ -28,8 +28,8 @@ use Rattle.files.specs.Read.{diskOf, start, chain, seek, since}
 use Rattle.files.specs.Judge.{judgeOf, OneMore, closing, Decided}
 use Rattle.files.specs.declared.verdict.Ruling.{Ruling}
 use Rattle.files.specs.declared.verdict.Ruling.the-variants.{Fine, No}
-use Rattle.files.specs.declared.judge.Judging.{Judging}
-use Rattle.files.specs.declared.judge.Judged.{Judged}
+use Rattle.files.specs.declared.deciding.Judging.{Judging}
+use Rattle.files.specs.declared.deciding.Judged.{Judged}
 use Rattle.files.proofs.SeenLaws.{seen-over, seen-at, seen-no, seen-less, held-over, held-at}
 use Rattle.files.proofs.ReadLaws.{seek-takes, seek-stays}
 use Rattle.files.proofs.JudgeLaws.{judging, judging-start, judging-end, judging-next, seek-past}

@@ -17,8 +17,8 @@ use Rattle.files.specs.Verdict.{Verdict, fine, _>>_}
 use Rattle.files.specs.Ruling.{ruled}
 use Rattle.files.specs.Read.{Disk, diskOf, start, chain, since, allows, decide}
 use Rattle.files.specs.declared.verdict.Ruling.the-variants.{Fine}
-use Rattle.files.specs.declared.judge.Judging.{Judging}
-use Rattle.files.specs.declared.judge.Judged.{Judged}
+use Rattle.files.specs.declared.deciding.Judging.{Judging}
+use Rattle.files.specs.declared.deciding.Judged.{Judged}
 
 -- an extent that starts at or past stop is not looked at (fs.rs, `read_extents_at`: `if e.logical >= end`)
 unfoldable pub touches : Disk → ℕ → ℕ → Extent → Verdict

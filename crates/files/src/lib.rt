@@ -1,10 +1,12 @@
 // File reads over extents (fs.rs, `read_at`).
 mod copy;
+mod deciding;
 mod extents;
-mod judge;
 mod read;
 mod verdict;
 
+pub use deciding::Judged;
+pub use deciding::judge;
 pub use read::FileRead;
 pub use read::read_at;
 pub use read::size_of;

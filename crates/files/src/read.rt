@@ -1,6 +1,6 @@
 // A part of a file (fs.rs, `read_at`).
 use crate::copy::fill;
-use crate::judge::judge;
+use crate::deciding::judge;
 use crate::verdict::Ruling;
 use crate::verdict::smaller;
 use btree::Search;

@@ -53,7 +53,7 @@ more-poured d size pos (got e) s n (no w) k es h ih = absurd (let z : _≡_ {A =
 more-poured d size pos (no w) s n c k es h ih = absurd (let z : _≡_ {A = ℕ} 0 1 = cc in omega arith)
 
 -- what a run's extents give is what their list gives
-run-poured : (f : Place → Answer Extent) (d : Disk) (size pos : ℕ) (r : Run) (es : List Extent) → listOf f r .answer ≡ got es → runBytes f d size pos r ≡ poured d size pos es
+pub run-poured : (f : Place → Answer Extent) (d : Disk) (size pos : ℕ) (r : Run) (es : List Extent) → listOf f r .answer ≡ got es → runBytes f d size pos r ≡ poured d size pos es
 unfolding runBytes listOf poured
 run-poured f d size pos (end s) es h = let q : es ≡ [] = cc in rw q
 run-poured f d size pos (refused w s) es h = absurd (let z : _≡_ {A = ℕ} 0 1 = cc in omega arith)

@@ -1,7 +1,7 @@
 use Rattle.files.proofs.JudgeLaws.{steps}
 use borrow.Author.Needs.{needs}
-use Rattle.files.proofs.judge.closed.Statement.{statement}
-use Rattle.files.proofs.judge.closed.Tie as tie
+use Rattle.files.proofs.deciding.closed.Statement.{statement}
+use Rattle.files.proofs.deciding.closed.Tie as tie
 
 pub closed-spec : {M : Type 1} → statement M
 closed-spec =

@@ -3,8 +3,8 @@ use borrow.Author.Needs.{needs}
 use Rattle.btree.proofs.Places.{size}
 use Rattle.cursor.specs.Left.{runOf}
 use Rattle.files.proofs.JudgeTurns.{turns, Going, judge-near, judge-far}
-use Rattle.files.proofs.judge.judge.Statement.{statement}
-use Rattle.files.proofs.judge.judge.Tie as tie
+use Rattle.files.proofs.deciding.judge.Statement.{statement}
+use Rattle.files.proofs.deciding.judge.Tie as tie
 
 abbrev Inv-loop : tie.InvT-loop
 Inv-loop image q off stop nodes reader j₀ s₀ kept₀ j s kept = Going image q off stop nodes j s kept

@@ -1,7 +1,7 @@
 use Rattle.files.proofs.JudgeLaws.{steps}
 use borrow.Author.Needs.{needs}
-use Rattle.files.proofs.judge.one_more.Statement.{statement}
-use Rattle.files.proofs.judge.one_more.Tie as tie
+use Rattle.files.proofs.deciding.one_more.Statement.{statement}
+use Rattle.files.proofs.deciding.one_more.Tie as tie
 
 pub one-more-spec : {M : Type 1} → statement M
 one-more-spec =

@@ -1,7 +1,7 @@
 use borrow.Author.Needs.{needs}
 use Rattle.files.proofs.JudgeLaws.{steps}
-use Rattle.files.proofs.judge.still_rises.Statement.{statement}
-use Rattle.files.proofs.judge.still_rises.Tie as tie
+use Rattle.files.proofs.deciding.still_rises.Statement.{statement}
+use Rattle.files.proofs.deciding.still_rises.Tie as tie
 
 pub still-rises-spec : {M : Type 1} → statement M
 still-rises-spec =

@@ -1,7 +1,7 @@
 use Rattle.files.proofs.JudgeLaws.{steps}
 use borrow.Author.Needs.{needs}
-use Rattle.files.proofs.judge.both.Statement.{statement}
-use Rattle.files.proofs.judge.both.Tie as tie
+use Rattle.files.proofs.deciding.both.Statement.{statement}
+use Rattle.files.proofs.deciding.both.Tie as tie
 
 pub both-spec : {M : Type 1} → statement M
 both-spec =
