@@ -1,0 +1,113 @@
+-- The definitions at work.
+use Prim.Native.Nat.{ℕ, _+_, _-_}
+use mathlib.Core.Path.{_≡_, refl}
+use mathlib.Core.Bool.{Bool, true, false, cond}
+use mathlib.Core.List.{List, [], _∷_}
+use mathlib.Core.Option.{Option, none, some}
+use lib.IntN.{pos, negsuc}
+use lib.Dec.{eqb, ltb}
+use lib.ListN.{take, drop, length}
+use Rattle.error.specs.Answer.{Answer, got, no, ifLe, ifEq}
+use Rattle.error.specs.declared.Refusal.the-variants.{Corrupt, NotFound, BufferTooShort, Overflow, CharacterNotCovered, TooDeep}
+use Rattle.text.specs.Words.{ascii, places, digits, signed, glyph, pairs}
+use Rattle.lines.specs.Shown.{InodeShown, EntryShown, AttributeShown}
+use Rattle.lines.specs.Lines.{volumeLine, nodeLine, contentsLine, entryLine, close}
+use Rattle.demand.specs.Trace.{done, stop, _then_, reading, within}
+use Rattle.demand.specs.View.{View}
+use Rattle.demand.specs.Listing.{attributeLines, dataLine, entryForms, nodeForm, trace, listing}
+use Rattle.demand.specs.Demand.{Met, here, nowhere, place, onward, follow, chain}
+use Rattle.demand.proofs.Walks.{Reads}
+
+-- a directory with nothing but its flags
+abbrev pub fields : ℕ → ℕ → InodeShown
+fields bsd i = record {
+  id = i;
+  parent = 1;
+  own = i;
+  create = 0;
+  modify = 0;
+  change = 0;
+  access = 0;
+  iflags = 0;
+  links = pos 0;
+  bsd = bsd;
+  owner = 0;
+  group = 0;
+  mode = 16877;
+  label = none;
+  stream = none;
+}
+
+abbrev child : ℕ → List ℕ → EntryShown
+child i l = record { id = i; date = 7; kind = 4; label = l }
+
+-- files are empty, nothing is packed
+abbrev plain : (ℕ → Answer (List EntryShown)) → (ℕ → Answer (List (AttributeShown (Answer (List ℕ))))) → View
+plain es l = record {
+  label = 65 ∷ [];
+  rule = record { caseless = true; normless = false };
+  inode = λ i. got (fields 0 i);
+  entries = es;
+  attributes = l;
+  contents = λ i. got [];
+  read = λ i off len. got (take len (drop off []));
+}
+
+abbrev bare : View
+bare = plain (λ i. got []) (λ i. got [])
+
+-- document 01's example
+bare-listed : listing bare 65_536 ≡ got (ascii "(volume 1 0 x41\n(node 2 1 2 0 0 0 0 0 0 0 0 0 16877 - -\n(data x)\n)\n)\n" [])
+unfolding listing within ifLe trace nodeForm attributeLines dataLine entryForms reading _then_ volumeLine nodeLine contentsLine entryLine close signed digits places pairs glyph
+bare-listed = refl
+
+-- 69 bytes: 6 in a room of 68, not in one of 69
+bare-short : listing bare 68 ≡ no BufferTooShort
+unfolding listing within ifLe trace nodeForm attributeLines dataLine entryForms reading _then_ volumeLine nodeLine contentsLine entryLine close signed digits places pairs glyph
+bare-short = refl
+
+-- inodes 2 to `last`, each in the one before it
+abbrev tower : ℕ → View
+tower last = plain (λ i. got (cond (ltb i last) (child (i + 1) (97 ∷ []) ∷ []) [])) (λ i. got [])
+
+-- depth 64 is listed, 65 is not
+tower-64 : trace (tower 66) .ended ≡ done
+unfolding trace nodeForm attributeLines dataLine entryForms reading _then_ volumeLine nodeLine contentsLine entryLine close signed digits places pairs glyph
+tower-64 = refl
+
+tower-65 : trace (tower 67) .ended ≡ stop TooDeep
+unfolding trace nodeForm attributeLines dataLine entryForms reading _then_ volumeLine nodeLine contentsLine entryLine close signed digits places pairs glyph
+tower-65 = refl
+
+-- 10 comes after the entry's line, before the inode: the text ends so
+tower-65-text : drop (length (trace (tower 67) .text) - 28) (trace (tower 67) .text) ≡ ascii "\n(data x)\n(entry 67 7 4 x61\n" []
+unfolding trace nodeForm attributeLines dataLine entryForms reading _then_ volumeLine nodeLine contentsLine entryLine close signed digits places pairs glyph
+tower-65-text = refl
+
+-- a fault in reading the root's attributes: it counts once the node's line, which comes before, has room; else 6 does
+abbrev faulty : View
+faulty = plain (λ i. no Overflow) (λ i. no Corrupt)
+
+faulty-listed : listing faulty 56 ≡ no Corrupt
+unfolding listing within ifLe trace nodeForm attributeLines dataLine entryForms reading _then_ volumeLine nodeLine contentsLine entryLine close signed digits places pairs glyph
+faulty-listed = refl
+
+faulty-short : listing faulty 55 ≡ no BufferTooShort
+unfolding listing within ifLe trace nodeForm attributeLines dataLine entryForms reading _then_ volumeLine nodeLine contentsLine entryLine close signed digits places pairs glyph
+faulty-short = refl
+
+-- chains: `b` and `A` at the root, `é` below `b`
+abbrev some-dirs : View
+some-dirs = plain (λ i. got (cond (eqb i 2) (child 5 (98 ∷ []) ∷ child 6 (65 ∷ []) ∷ []) (cond (eqb i 5) (child 7 (195 ∷ 169 ∷ []) ∷ []) []))) (λ i. got [])
+
+chain-root : chain some-dirs [] ≡ here (fields 0 2)
+unfolding follow onward place
+chain-root = refl
+
+chain-down : chain some-dirs (0 ∷ 0 ∷ []) ≡ here (fields 0 7)
+unfolding follow onward place
+chain-down = refl
+
+chain-past : chain some-dirs (0 ∷ 1 ∷ 0 ∷ []) ≡ nowhere
+unfolding follow onward place
+chain-past = refl

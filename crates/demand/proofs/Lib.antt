@@ -1,0 +1,15 @@
+pub mod Codes
+pub mod TreeLaws
+pub mod Shows
+pub mod Walks
+pub mod Back
+pub mod Views
+pub mod Callable
+pub mod Counts
+pub mod Calls
+pub mod Inodes
+pub mod Reading
+pub mod Lookups
+pub mod Demand
+pub mod Edges
+pub mod Examples

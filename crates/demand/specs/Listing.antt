@@ -1,0 +1,56 @@
+-- The listing. Document 01, "The listing (added)".
+use Prim.Native.Nat.{ℕ, zero, suc, _/_, _%_}
+use mathlib.Core.Bool.{Bool}
+use mathlib.Core.List.{List, [], _∷_}
+use lib.Dec.{eqb}
+use Rattle.error.specs.Answer.{Answer, pick}
+use Rattle.error.specs.declared.Refusal.the-variants.{TooDeep}
+use Rattle.lines.specs.Shown.{InodeShown, EntryShown, AttributeShown, packed, plain}
+use Rattle.lines.specs.Lines.{volumeLine, nodeLine, attributeLine, contentsLine, entryLine, close}
+use Rattle.demand.specs.Trace.{Trace, says, refuses, _then_, reading, within}
+use Rattle.demand.specs.View.{View}
+
+-- an attribute, with these contents
+abbrev pub holding : {B C : Type 0} → AttributeShown B → C → AttributeShown C
+holding a d = record { flags = a.flags; label = a.label; form = a.form; contents = d }
+
+-- "`(attr FLAGS NAME e DATA)` or `(attr FLAGS NAME s OBJECT DATA)`"; "a stream's or file's bytes are read for their own line"
+unfoldable pub attributeLines : List (AttributeShown (Answer (List ℕ))) → Trace
+attributeLines [] = says []
+attributeLines (a ∷ l) = reading a.contents (λ d. says (attributeLine (holding a d) [])) then attributeLines l
+
+-- UF_COMPRESSED, bit 0x20 of BSD (fs.rs, `is_compressed`)
+abbrev pub isPacked : InodeShown → Bool
+isPacked f = eqb (f.bsd / 32 % 2) 1
+
+-- "`(data BYTES)` or, if compressed, `(packed)`"
+unfoldable pub dataLine : View → InodeShown → Trace
+dataLine v f = pick (isPacked f) (says (contentsLine packed [])) (reading (v.contents f.id) λ d. says (contentsLine (plain d) []))
+
+-- "per directory entry `(entry ID DATE KIND NAME`, the node of that ID, `)`"
+unfoldable pub entryForms : (ℕ → Trace) → List EntryShown → Trace
+entryForms form [] = says []
+entryForms form (e ∷ es) = says (entryLine e []) then form e.id then says (close []) then entryForms form es
+
+-- the node of that id, where so many levels are left, its own counted: "10 (added) a listing node deeper than 64, after its entry's line and before
+-- its inode is read"; "After a node's line, all its attributes, then all its entries, are read before the first of them is written"
+unfoldable pub nodeForm : View → ℕ → ℕ → Trace
+nodeForm v zero i = refuses TooDeep
+nodeForm v (suc d) i =
+    reading (v.inode i) λ f.
+    says (nodeLine f []) then
+    reading (v.attributes f.id) λ l.
+    reading (v.entries f.id) λ es.
+    attributeLines l then dataLine v f then entryForms (nodeForm v d) es then says (close [])
+
+-- "the root is at depth 0", and the deepest node at 64
+abbrev pub levels : ℕ
+levels = 65
+
+-- "`(volume C N LABEL` .. Then the root's node form, then `)`"
+unfoldable pub trace : View → Trace
+trace v = says (volumeLine (v.rule .caseless) (v.rule .normless) v.label []) then nodeForm v levels 2 then says (close [])
+
+-- a listing into a buffer of `room` bytes
+unfoldable pub listing : View → ℕ → Answer (List ℕ)
+listing v room = within room (trace v)
