@@ -1,0 +1,4 @@
+pub mod Running
+pub mod Lines
+pub mod Walking
+pub mod Heads

@@ -1,0 +1,123 @@
+-- The lines of a node's form, by what is read for them.
+use Prim.Native.Nat.{ℕ}
+use mathlib.Core.Path.{_≡_, refl, sym, ap, _∙_}
+use mathlib.Core.List.{List, [], _∷_, _++_}
+use borrow.Author.Needs.{needs}
+use Rattle.error.specs.Answer.{Answer, got, no}
+use Rattle.error.specs.declared.Refusal.{Refusal}
+use Rattle.error.proofs.Laws.{same, other}
+use Rattle.bytes.specs.declared.Span.{Span}
+use Rattle.obj.specs.declared.reader.Reader.{Reader}
+use Rattle.lookup.specs.Counted.{Counted, after, onto}
+use Rattle.utf8.specs.Text.{lossy}
+use Rattle.text.specs.Output.{Output, refused, outputOf, puts}
+use Rattle.text.specs.Words.{pairs}
+use Rattle.text.proofs.Digits.{pairs-append}
+use Rattle.text.proofs.Writing.{puts-append}
+use Rattle.volume.specs.declared.Volume.{Volume}
+use Rattle.records.specs.Attribute.{attributeName, attributeBytes}
+use Rattle.records.specs.declared.attribute.Attribute.{Attribute}
+use Rattle.records.specs.declared.attribute.AttributeData.{AttributeData}
+use Rattle.records.specs.declared.attribute.AttributeData.the-variants.{Embedded, Stream}
+use Rattle.records.specs.declared.attribute.StreamData.{StreamData}
+use Rattle.records.specs.declared.inode.Inode.{Inode}
+use Rattle.files.specs.File.{packed, sizeOf}
+use Rattle.files.specs.Ruling.{ruled}
+use Rattle.files.specs.declared.verdict.Ruling.{Ruling}
+use Rattle.streams.specs.Streams.{settledTold, settledOf, streamOf, streamBytes}
+use Rattle.streams.specs.declared.settle.Settled.{Settled}
+use Rattle.streams.proofs.Contents.{stream-settled}
+use Rattle.contents.specs.Whole.{settledWhole, readPlain}
+use Rattle.contents.proofs.Plain.{plain-settled}
+use Rattle.links.specs.Link.{contentsBy, contentsOf}
+use Rattle.lines.specs.Shown.{attributeShown, formShown, plain}
+use Rattle.lines.specs.Shown as shown
+use Rattle.lines.specs.Lines.{attributeHead, attributeLine, contentsLine}
+use Rattle.lines.proofs.After.{attribute-texts}
+use Rattle.demand.specs.Trace.{Trace, stop, says, _then_, reading}
+use Rattle.forms.specs.Run.{ending, run}
+use Rattle.forms.specs.Forms.{attributeTrace, streamTrace, plainTrace, dataTrace}
+use Rattle.forms.proofs.Running.{run-says, reading-got, reading-no}
+
+-- a line with contents that are written piece by piece
+pub streamed-line : (room : ℕ) (o h x z : Output) (r : Reader) (b : List ℕ) (a : Attribute) (c : List ℕ) → h ≡ puts room (attributeHead (a .flags) (lossy (attributeName r b a)) (formShown (a .contents)) []) o
+    → x ≡ puts room (pairs c []) h → z ≡ puts room (41 ∷ 10 ∷ []) x → z ≡ puts room (attributeLine (attributeShown r b a c) []) o
+unfolding attributeShown
+streamed-line room o h x z r b a c p q e =
+    e ∙ rw (q, p, ← puts-append room (pairs c []) (41 ∷ 10 ∷ []) _, ← puts-append room (attributeHead (a .flags) (lossy (attributeName r b a)) (formShown (a .contents)) []) _ o, attribute-texts (attributeShown r b a c))
+
+data-texts : (c : List ℕ) → (40 ∷ 100 ∷ 97 ∷ 116 ∷ 97 ∷ 32 ∷ 120 ∷ []) ++ (pairs c [] ++ (41 ∷ 10 ∷ [])) ≡ contentsLine (plain c) []
+unfolding contentsLine
+data-texts c = ap (λ (t : List ℕ). 40 ∷ 100 ∷ 97 ∷ 116 ∷ 97 ∷ 32 ∷ 120 ∷ t) (sym (pairs-append c [] (41 ∷ 10 ∷ [])))
+
+bytes-line : (room : ℕ) (o h x z : Output) (c : List ℕ) → h ≡ puts room (40 ∷ 100 ∷ 97 ∷ 116 ∷ 97 ∷ 32 ∷ 120 ∷ []) o → x ≡ puts room (pairs c []) h → z ≡ puts room (41 ∷ 10 ∷ []) x
+    → z ≡ puts room (contentsLine (plain c) []) o
+bytes-line room o h x z c p q e =
+    e ∙ rw (q, p, ← puts-append room (pairs c []) (41 ∷ 10 ∷ []) _, ← puts-append room (40 ∷ 100 ∷ 97 ∷ 116 ∷ 97 ∷ 32 ∷ 120 ∷ []) _ o, data-texts c)
+
+pub file-line : (room : ℕ) (b : List ℕ) (v : Volume) (i : Inode) (size : ℕ) (o h x z : Output) → size ≡ sizeOf i → h ≡ puts room (40 ∷ 100 ∷ 97 ∷ 116 ∷ 97 ∷ 32 ∷ 120 ∷ []) o
+    → x ≡ puts room (pairs (streamBytes b v (i .ids .«private_id») size 0) []) h → z ≡ puts room (41 ∷ 10 ∷ []) x → z ≡ puts room (contentsLine (plain (streamBytes b v (i .ids .«private_id») (sizeOf i) 0)) []) o
+file-line room b v i size o h x z k p q e =
+    bytes-line room o h x z (streamBytes b v (i .ids .«private_id») size 0) p q e ∙ ap (λ (n : ℕ). puts room (contentsLine (plain (streamBytes b v (i .ids .«private_id») n 0)) []) o) k
+
+pub packed-line : (room : ℕ) (o z : Output) → z ≡ puts room (40 ∷ 112 ∷ 97 ∷ 99 ∷ 107 ∷ 101 ∷ 100 ∷ 41 ∷ 10 ∷ []) o → z ≡ puts room (contentsLine shown.packed []) o
+unfolding contentsLine
+packed-line room o z h = h
+
+-- what is answered once it is settled
+module _ (n : ℕ) (x : Ruling) (bs : List ℕ) (c : Counted (List ℕ)) (p : c ≡ (onto (after n (ruled x)) λ u t. after t (got bs))) where
+  settled-got : x ≡ Ruling.Fine → c .answer ≡ got bs
+  settled-got q = ap (λ (y : Counted (List ℕ)). y .answer) (p ∙ ap (λ (r : Ruling). onto (after n (ruled r)) λ u t. after t (got bs)) q)
+
+  settled-no : (w : Refusal) → x ≡ Ruling.No w → c .answer ≡ no w
+  settled-no w q = ap (λ (y : Counted (List ℕ)). y .answer) (p ∙ ap (λ (r : Ruling). onto (after n (ruled r)) λ u t. after t (got bs)) q)
+
+module _ (room : ℕ) (b : List ℕ) (v : Volume) (a : Attribute) (o z : Output) where
+  module _ (d : StreamData) (r : Settled) (p : settledTold r ≡ settledOf b v (d .object) (d .size) 0) where
+    by-ruling : streamOf b v (d .object) (d .size) 0 ≡ (onto (after (r .nodes) (ruled (r .ruling))) λ u t. after t (got (streamBytes b v (d .object) (d .size) 0)))
+    by-ruling = stream-settled b v (d .object) (d .size) 0 ∙ ap (λ (c : Counted (Unit {0})). onto c λ u t. after t (got (streamBytes b v (d .object) (d .size) 0))) (sym p)
+
+    pub stream-fine : r .ruling ≡ Ruling.Fine → z ≡ puts room (attributeLine (attributeShown (v .reader) b a (streamBytes b v (d .object) (d .size) 0)) []) o → z ≡ run room (streamTrace b v a d) o
+    unfolding streamTrace
+    stream-fine q h = reading-got room _ _ o _ z (settled-got (r .nodes) (r .ruling) _ _ by-ruling q) (run-says room _ o z h)
+
+    pub stream-refused : (w : Refusal) → r .ruling ≡ Ruling.No w → z ≡ ending (stop w) o → z ≡ run room (streamTrace b v a d) o
+    unfolding streamTrace
+    stream-refused w q h = reading-no room _ _ o w z (settled-no (r .nodes) (r .ruling) _ _ by-ruling w q) h
+
+  -- what the line is where these are the contents
+  abbrev written : Answer (List ℕ) → Output
+  written x = run room (reading x λ d. says (attributeLine (attributeShown (v .reader) b a d) [])) o
+
+  pub embedded-trace : (s : Span) → a .contents ≡ Embedded s → z ≡ puts room (attributeLine (attributeShown (v .reader) b a (attributeBytes (v .reader) b (a .place) s)) []) o → z ≡ run room (attributeTrace b v a) o
+  unfolding attributeTrace contentsBy
+  embedded-trace s q h =
+      reading-got room (got (attributeBytes (v .reader) b (a .place) s)) (λ d. says (attributeLine (attributeShown (v .reader) b a d) [])) o _ z refl (run-says room _ o z h)
+      ∙ ap (λ (x : AttributeData). written (contentsBy b v (a .place) x 0 .answer)) (sym q)
+
+  pub streamed-trace : (d : StreamData) → a .contents ≡ Stream d → z ≡ run room (streamTrace b v a d) o → z ≡ run room (attributeTrace b v a) o
+  unfolding attributeTrace contentsBy streamTrace
+  streamed-trace d q h = h ∙ ap (λ (x : AttributeData). written (contentsBy b v (a .place) x 0 .answer)) (sym q)
+
+module _ (room : ℕ) (b : List ℕ) (v : Volume) (i : Inode) (o z : Output) where
+  module _ (r : Settled) (p : settledTold r ≡ settledWhole b v i 0) where
+    whole-ruling : readPlain b v i 0 ≡ (onto (after (r .nodes) (ruled (r .ruling))) λ u t. after t (got (streamBytes b v (i .ids .«private_id») (sizeOf i) 0)))
+    whole-ruling = plain-settled b v i 0 ∙ ap (λ (c : Counted (Unit {0})). onto c λ u t. after t (got (streamBytes b v (i .ids .«private_id») (sizeOf i) 0))) (sym p)
+
+    pub plain-fine : r .ruling ≡ Ruling.Fine → z ≡ puts room (contentsLine (plain (streamBytes b v (i .ids .«private_id») (sizeOf i) 0)) []) o → z ≡ run room (plainTrace b v i) o
+    unfolding plainTrace
+    plain-fine q h = reading-got room _ _ o _ z (settled-got (r .nodes) (r .ruling) _ _ whole-ruling q) (run-says room _ o z h)
+
+    pub plain-refused : (w : Refusal) → r .ruling ≡ Ruling.No w → z ≡ ending (stop w) o → z ≡ run room (plainTrace b v i) o
+    unfolding plainTrace
+    plain-refused w q h = reading-no room _ _ o w z (settled-no (r .nodes) (r .ruling) _ _ whole-ruling w q) h
+
+  pub data-packed : packed i ≡ 1 → z ≡ puts room (contentsLine shown.packed []) o → z ≡ run room (dataTrace b v i) o
+  unfolding dataTrace
+  data-packed q h = run-says room _ o z h ∙ ap (λ (t : Trace). run room t o) (same _ _ _ _ _ q refl)
+
+  pub data-plain : (packed i ≡ 1 → ⊥) → z ≡ run room (plainTrace b v i) o → z ≡ run room (dataTrace b v i) o
+  unfolding dataTrace
+  data-plain q h = h ∙ ap (λ (t : Trace). run room t o) (other _ _ _ _ _ q refl)
+
+pub ruleset all = (needs, streamed-line, packed-line, stream-fine, stream-refused, embedded-trace, streamed-trace, plain-fine, plain-refused, data-packed, data-plain)

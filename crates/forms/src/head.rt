@@ -1,0 +1,64 @@
+// A node up to its entries: its line, then, once its lists are known to be readable, its attributes and its data.
+use crate::attributes::put_attributes;
+use crate::contents_line::put_data;
+use crate::refusing::refuse;
+use lines::put_node_line;
+use lists::AttributeAt;
+use lists::EntryAt;
+use lists::attribute_at;
+use lists::entry_at;
+use records::Inode;
+use text::Position;
+use volume::Volume;
+ghost use mathlib.Core.Path.{_≡_};
+ghost use mathlib.Core.List.{List};
+ghost use Prim.Native.Nat.{ℕ};
+ghost use Rattle.text.specs.Output.{outputOf};
+ghost use Rattle.lists.specs.Lists.{entriesOf};
+ghost use Rattle.forms.specs.Run.{run, ending, endOf};
+ghost use Rattle.forms.specs.Forms.{listsVerdict, headTrace};
+
+// A place that no list reaches: the whole list is read.
+fn read_entries(p: Position, image: &[u8], v: Volume, id: u64) -> Position
+    ensures { λ r. ⌜ ((b : List ℕ) → outputOf r b ≡ ending (endOf (entriesOf (now (image .entry)) v id 0 .answer)) (outputOf p b)) ⌝ }
+{
+    let found = entry_at(image, v, id, 18446744073709551615, 0);
+    let entry = found.entry;
+    match entry {
+        EntryAt::No(w) => refuse(p, w),
+        EntryAt::At(_) => p,
+        EntryAt::Nothing => p,
+    }
+}
+
+fn read_lists(p: Position, image: &[u8], v: Volume, id: u64) -> Position
+    ensures { λ r. ⌜ ((b : List ℕ) → outputOf r b ≡ ending (endOf (listsVerdict (now (image .entry)) v id)) (outputOf p b)) ⌝ }
+{
+    let found = attribute_at(image, v, id, 18446744073709551615, 0);
+    let attribute = found.attribute;
+    match attribute {
+        AttributeAt::No(w) => refuse(p, w),
+        AttributeAt::At(_) => read_entries(p, image, v, id),
+        AttributeAt::Nothing => read_entries(p, image, v, id),
+    }
+}
+
+pub fn put_head(
+    out: &mut [u8],
+    room: usize,
+    p: Position,
+    image: &[u8],
+    v: Volume,
+    i: Inode,
+) -> Position
+    ensures { λ r. ⌜ outputOf r (now (out .exit)) ≡ run room (headTrace (now (image .entry)) v i) (outputOf p (now (out .entry))) ⌝ }
+{
+    let reader = v.reader;
+    let a = put_node_line(out, room, p, image, reader, i);
+    if let Position::No(w) = a {
+        return Position::No(w);
+    }
+    let b = read_lists(a, image, v, i.id);
+    let c = put_attributes(out, room, b, image, v, i.id);
+    put_data(out, room, c, image, v, i)
+}
