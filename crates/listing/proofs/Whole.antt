@@ -1,0 +1,91 @@
+-- The whole listing, and what it leaves of the buffer.
+use Prim.Native.Nat.{ℕ, _≤_, _<_}
+use mathlib.Core.Path.{_≡_, refl, sym, ap, _∙_}
+use mathlib.Core.List.{List, [], _∷_, _++_}
+use mathlib.Core.Logic.{_⊎_, inl, inr}
+use native.Mathlib.Omega.{arith}
+use borrow.Author.Needs.{needs}
+use lib.ListN.{length, drop, replicate}
+use Rattle.error.specs.Answer.{Answer, got, no}
+use Rattle.error.specs.declared.Refusal.{Refusal}
+use Rattle.error.specs.declared.Refusal.the-variants.{BufferTooShort}
+use Rattle.error.proofs.Laws.{at-most, above}
+use Rattle.utf8.specs.Text.{lossy}
+use Rattle.text.specs.Output.{Output, at, refused, outputOf, puts, whole}
+use Rattle.text.specs.declared.Position.{Position}
+use Rattle.text.specs.declared.Position.the-variants.{At, No}
+use Rattle.text.proofs.Whole.{whole-written}
+use Rattle.volume.specs.declared.Volume.{Volume}
+use Rattle.label.specs.Label.{labelOf}
+use Rattle.paths.specs.Names.{ruleOf}
+use Rattle.paths.specs.declared.names.NameRule.{NameRule}
+use Rattle.files.proofs.Verdicts.{le-or-gt}
+use Rattle.lines.specs.Lines.{volumeLine, close}
+use Rattle.demand.specs.Trace.{End, done, stop, Trace, says, _then_, textOr, within}
+use Rattle.demand.specs.Listing.{nodeForm, trace, listing}
+use Rattle.demand.specs.Demand.{viewOf, labelShown}
+use Rattle.forms.specs.Run.{ending, run}
+use Rattle.forms.proofs.Running.{run-says, run-then}
+use Rattle.listing.specs.Listed.{Listed, listedOf, listedAt}
+
+pub listing-whole : (room : ℕ) (b : List ℕ) (v : Volume) (o p x z : Output) (k : NameRule) (l : List ℕ) → k ≡ ruleOf v → l ≡ labelOf b v
+    → p ≡ puts room (volumeLine (k .caseless) (k .normless) (lossy l) []) o → x ≡ run room (nodeForm (viewOf b v) 65 2) p → z ≡ puts room (41 ∷ 10 ∷ []) x → z ≡ run room (trace (viewOf b v)) o
+unfolding trace labelShown close
+listing-whole room b v o p x z k l e f g h j =
+    let line : p ≡ puts room (volumeLine (ruleOf v .caseless) (ruleOf v .normless) (lossy (labelOf b v)) []) o = rw (e, f) at g in
+    run-says room (close []) x z j ∙ ap (run room (says (close []))) (h ∙ ap (run room (nodeForm (viewOf b v) 65 2)) (run-says room _ o p line))
+    ∙ sym (run-then room _ _ o ∙ run-then room _ _ _)
+
+module _ (t : Trace) (out : List ℕ) where
+  run-whole : run (length out) t (at out 0) ≡ ending (t .ended) (whole (t .text) out)
+  unfolding run
+  run-whole = ap (ending (t .ended)) (whole-written (t .text) out)
+
+  module _ (p : Position) (l : List ℕ) (h : outputOf p l ≡ run (length out) t (at out 0)) where
+    pub listed-got : (n : ℕ) → p ≡ At n → listedAt (At n) l ≡ listedOf (within (length out) t) out
+    unfolding within whole
+    listed-got n q = of (le-or-gt (length (t .text)) (length out)) (t .ended) (ap (λ (x : Position). outputOf x l) (sym q) ∙ h ∙ run-whole)
+      where
+        of : (length (t .text) ≤ length out) ⊎ (length out < length (t .text)) → (e : End) → at l n ≡ ending e (whole (t .text) out)
+            → listedAt (At n) l ≡ listedOf (within (length out) (record { text = t .text; ended = e })) out
+        of (inl k) done w =
+            let a : at l n ≡ at (t .text ++ drop (length (t .text)) out) (length (t .text)) = w ∙ sym (at-most _ _ _ _ _ k refl) in
+            let m : n ≡ length (t .text) = cc in
+            let c : l ≡ t .text ++ drop (length (t .text)) out = cc in
+            rw (m, c) (ap (λ (x : Answer (List ℕ)). listedOf x out) (at-most _ _ _ _ _ k refl))
+        of (inl k) (stop e) w =
+            let a : at l n ≡ refused e = w ∙ ap (ending (stop e)) (sym (at-most _ _ _ _ _ k refl)) in
+            absurd (let z : _≡_ {A = ℕ} 0 1 = cc in omega arith)
+        of (inr k) done w =
+            let a : at l n ≡ refused BufferTooShort = w ∙ sym (above _ _ _ _ _ k refl) in
+            absurd (let z : _≡_ {A = ℕ} 0 1 = cc in omega arith)
+        of (inr k) (stop e) w =
+            let a : at l n ≡ refused BufferTooShort = w ∙ ap (ending (stop e)) (sym (above _ _ _ _ _ k refl)) in
+            absurd (let z : _≡_ {A = ℕ} 0 1 = cc in omega arith)
+
+    pub listed-no : (w : Refusal) (c : List ℕ) → p ≡ No w → length l ≡ length out → c ≡ replicate (length l) 0 → listedAt (No w) c ≡ listedOf (within (length out) t) out
+    unfolding within whole
+    listed-no w c q s z = of (le-or-gt (length (t .text)) (length out)) (t .ended) (ap (λ (x : Position). outputOf x l) (sym q) ∙ h ∙ run-whole)
+      where
+        zeros : c ≡ replicate (length out) 0
+        zeros = z ∙ ap (λ (n : ℕ). replicate n 0) s
+
+        of : (length (t .text) ≤ length out) ⊎ (length out < length (t .text)) → (e : End) → refused w ≡ ending e (whole (t .text) out)
+            → listedAt (No w) c ≡ listedOf (within (length out) (record { text = t .text; ended = e })) out
+        of (inl k) done y =
+            let a : refused w ≡ at (t .text ++ drop (length (t .text)) out) (length (t .text)) = y ∙ sym (at-most _ _ _ _ _ k refl) in
+            absurd (let g : _≡_ {A = ℕ} 0 1 = cc in omega arith)
+        of (inl k) (stop e) y =
+            let a : refused w ≡ refused e = y ∙ ap (ending (stop e)) (sym (at-most _ _ _ _ _ k refl)) in
+            let m : w ≡ e = cc in
+            rw (zeros, m) (ap (λ (x : Answer (List ℕ)). listedOf x out) (at-most _ _ _ _ _ k refl))
+        of (inr k) done y =
+            let a : refused w ≡ refused BufferTooShort = y ∙ sym (above _ _ _ _ _ k refl) in
+            let m : w ≡ BufferTooShort = cc in
+            rw (zeros, m) (ap (λ (x : Answer (List ℕ)). listedOf x out) (above _ _ _ _ _ k refl))
+        of (inr k) (stop e) y =
+            let a : refused w ≡ refused BufferTooShort = y ∙ ap (ending (stop e)) (sym (above _ _ _ _ _ k refl)) in
+            let m : w ≡ BufferTooShort = cc in
+            rw (zeros, m) (ap (λ (x : Answer (List ℕ)). listedOf x out) (above _ _ _ _ _ k refl))
+
+pub ruleset all = (needs, listing-whole, listed-got, listed-no)

@@ -1,0 +1,167 @@
+use Prim.Native.Nat.{ℕ, _+_, _-_, _<_}
+use mathlib.Core.Path.{_≡_}
+use mathlib.Core.List.{map}
+use lib.ListN.{length}
+use borrow.Author.Needs.{needs}
+use Rattle.text.specs.Output.{outputOf}
+use Rattle.btree.specs.Scan.{scanOf}
+use Rattle.btree.proofs.Places.{size}
+use Rattle.cursor.specs.Left.{runOf}
+use Rattle.records.specs.Directory.{entryAt}
+use Rattle.lists.specs.Lists.{searchOf}
+use Rattle.lines.specs.Shown.{entryShown}
+use Rattle.demand.specs.Listing.{entryForms, nodeForm}
+use Rattle.demand.specs.Demand.{viewOf}
+use Rattle.forms.specs.Run.{run}
+use Rattle.forms.specs.Readable.{readable}
+use Rattle.listing.proofs.Laws.{nodes, node-whole, entries-next, some-left, less-left}
+use borrow.Fn.Kinds.{In}
+use borrow.Fn.PlainCycle.{Measures, is, falls, and}
+use Rattle.listing.proofs.writers.put_entry.Reads as put-entry
+use Rattle.listing.proofs.writers.put_entry.Kinds as put-entry-kinds
+use Rattle.listing.proofs.writers.+put_entry+put_node.Lts-put_entry as put-entry-lts
+use Rattle.listing.proofs.writers.put_node.Reads as put-node
+use Rattle.listing.proofs.writers.put_node.Kinds as put-node-kinds
+use Rattle.listing.proofs.writers.+put_entry+put_node.Lts-put_node as put-node-lts
+use Rattle.cursor.proofs.first.Reads as first-reads
+use Rattle.cursor.proofs.next.Reads as next-reads
+use Rattle.forms.proofs.put_head.Reads as put-head-reads
+use Rattle.forms.proofs.refuse.Reads as refuse-reads
+use Rattle.forms.proofs.look_entry.Reads as look-entry-reads
+use Rattle.lines.proofs.put_entry_line.Reads as put-entry-line-reads
+use Rattle.lists.proofs.inode.Reads as inode-reads
+use Rattle.lists.proofs.search.Reads as search-reads
+use Rattle.text.proofs.put_all.Reads as put-all-reads
+use Rattle.listing.proofs.writers.+put_entry+put_node.{statement}
+use Rattle.listing.proofs.writers.+put_entry+put_node.Tie.{close}
+
+abbrev μ-put-entry : Measures 2 put-entry-kinds.ps ℕ
+μ-put-entry κs a = a .1 .1 .1 .1 .1 .1 .0 + a .1 .1 .1 .1 .1 .1 .0 + 1
+
+abbrev μ-put-node : Measures 2 put-node-kinds.ps ℕ
+μ-put-node κs a = a .1 .1 .1 .1 .1 .1 .0 + a .1 .1 .1 .1 .1 .1 .0
+
+abbrev put-entry-at : ℕ → In 2 put-entry-kinds.ps
+put-entry-at t = and 2 put-entry-kinds.ps (is 2 put-entry-kinds.ps μ-put-entry t) put-entry.Pre
+
+abbrev put-entry-below : ℕ → In 2 put-entry-kinds.ps
+put-entry-below t =
+    and 2 put-entry-kinds.ps (falls 2 put-entry-kinds.ps _<_ μ-put-entry t) put-entry.Pre
+
+abbrev put-node-at : ℕ → In 2 put-node-kinds.ps
+put-node-at t = and 2 put-node-kinds.ps (is 2 put-node-kinds.ps μ-put-node t) put-node.Pre
+
+abbrev put-node-below : ℕ → In 2 put-node-kinds.ps
+put-node-below t =
+    and 2 put-node-kinds.ps (falls 2 put-node-kinds.ps _<_ μ-put-node t) put-node.Pre
+
+abbrev put-node-Inv-loop : put-node-lts.InvT-loop
+put-node-Inv-loop out₀ room image v id levels reader q o₀ s₀ t19 out o s =
+    (run room (entryForms (nodeForm (viewOf image v) (levels - 1)) (map (entryShown (v .reader) image) (readable (entryAt (v .reader) image) (runOf image q s)))) (outputOf o out)
+    ≡ run room (entryForms (nodeForm (viewOf image v) (levels - 1)) (map (entryShown (v .reader) image) (readable (entryAt (v .reader) image) (scanOf image (searchOf v id 9) 0)))) (outputOf o₀ out₀))
+    × (length out ≡ length out₀)
+
+abbrev put-node-μ-loop : put-node-lts.MeasureT-loop
+put-node-μ-loop out₀ room image v id levels reader q o₀ s₀ t19 out o s = size (runOf image q s)
+
+pub +put-entry+put-node-spec : {M : Type 1} → statement M
++put-entry+put-node-spec = close μ-put-entry μ-put-node (λ t. put-entry-lts.spec (
+  put-entry-line-reads.Asked,
+  put-entry-line-reads.Learnt,
+  put-node-below t,
+  put-node.Post,
+  put-all-reads.Asked,
+  put-all-reads.Learnt,
+)
+    (put-entry-at t)
+    put-entry.Post
+    -- put-entry-put-entry-line-requires
+    (λ c κs. search needs)
+    -- put-entry-enum-known-a
+    (λ c. search nodes)
+    -- put-entry-same-length
+    (λ c. search nodes)
+    -- put-entry-returns
+    (λ c. search nodes)
+    -- put-entry-enum-told
+    (λ c. search nodes)
+    -- put-entry-put-node-requires
+    (λ c κs. search needs)
+    -- put-entry-slice-aggregate-put-all
+    (λ c. search nodes)
+    -- put-entry-put-all-requires
+    (λ c κs. search needs)
+    -- put-entry-same-length-2
+    (λ c. search nodes)
+    -- put-entry-returns-2
+    (λ c. search nodes))
+    λ t. put-node-lts.spec (
+      refuse-reads.Asked,
+      refuse-reads.Learnt,
+      inode-reads.Asked,
+      inode-reads.Learnt,
+      search-reads.Asked,
+      search-reads.Learnt,
+      put-head-reads.Asked,
+      put-head-reads.Learnt,
+      first-reads.Asked,
+      first-reads.Learnt,
+      look-entry-reads.Asked,
+      look-entry-reads.Learnt,
+      put-all-reads.Asked,
+      put-all-reads.Learnt,
+      put-entry-below t,
+      put-entry.Post,
+      next-reads.Asked,
+      next-reads.Learnt,
+    )
+    (put-node-at t)
+    put-node.Post
+    put-node-Inv-loop
+    put-node-μ-loop
+    -- put-node-refuse-requires
+    (λ c κs. search needs)
+    -- put-node-returns
+    (λ c. search (nodes, c .refuse .ensures))
+    -- put-node-inode-requires
+    (λ c κs. search needs)
+    -- put-node-enum-known-read
+    (λ c. search nodes)
+    -- put-node-refuse-requires-2
+    (λ c κs. search needs)
+    -- put-node-enum-known-read-2
+    (λ c. search nodes)
+    -- put-node-search-requires
+    (λ c κs. search needs)
+    -- put-node-put-head-requires
+    (λ c κs. search needs)
+    -- put-node-first-requires
+    (λ c κs. search needs)
+    -- put-node-loop-holds
+    (λ c. search nodes)
+    -- put-node-look-entry-requires
+    (λ c κs. search needs)
+    -- put-node-enum-told
+    (λ c. search nodes)
+    -- put-node-slice-aggregate-put-all
+    (λ c. search nodes)
+    -- put-node-put-all-requires
+    (λ c κs. search needs)
+    -- put-node-same-length
+    (λ c. search nodes)
+    -- put-node-returns-2
+    (λ c. node-whole _ _ _ _ _ _ _ (c .before .before .before .before .before .before .before .before .before .before .before .before .before .before .before .before .before .before .before .before .if1 .left) _ (c .before .before .before .before .before .before .before .before .before .before .before .before .before .before .before .before .before .before .before .inode .ensures) _ _ _ _ _ _ (c .before .before .before .before .before .before .before .before .before .before .before .before .before .before .before .before .before .read2 .given .1) (c .before .before .before .before .before .before .before .before .before .before .before .before .put-head .ensures) (c .before .before .before .before .before .before .before .before .loop .inv .0) (c .before .before .before .before .before .before .before .look-entry .ensures) (c .before .before .before .before .before .enum-told .given .1) (c .before .before .put-all .ensures))
+    -- put-node-enum-known-e
+    (λ c. search nodes)
+    -- put-node-sub-put-entry
+    (λ c. some-left _ (c .before .before .before .before .before .before .before .before .before .before .before .before .before .before .before .before .before .if1 .left))
+    -- put-node-put-entry-requires
+    (λ c κs. (less-left _ _ (c .before .before .before .before .before .before .before .before .before .before .before .before .before .before .before .before .before .if1 .left) (c .before .before .before .before .before .before .before .before .before .before .before .before .before .before .before .before .before .before .before .before .pre .0), tt))
+    -- put-node-next-requires
+    (λ c κs. search needs)
+    -- put-node-loop-less
+    (λ c. search nodes)
+    -- put-node-loop-again
+    (λ c. (search (entries-next), search needs))
+    -- put-node-returns-3
+    (λ c. search (nodes, c .refuse2 .ensures))

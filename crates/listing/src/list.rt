@@ -1,0 +1,48 @@
+// The whole listing of a volume, into a buffer that the caller lends.
+use crate::writers::put_node;
+use label::label_of;
+use lines::put_volume_line;
+use paths::name_rule;
+use text::Position;
+use text::clear;
+use text::put_all;
+use volume::Volume;
+ghost use mathlib.Core.Path.{_≡_};
+ghost use lib.ListN.{length};
+ghost use Rattle.text.specs.Output.{outputOf, at};
+ghost use Rattle.demand.specs.Listing.{trace, listing};
+ghost use Rattle.demand.specs.Demand.{viewOf};
+ghost use Rattle.forms.specs.Run.{run};
+ghost use Rattle.listing.specs.Listed.{listedAt, listedOf};
+
+fn put_listing(out: &mut [u8], image: &[u8], v: Volume) -> Position
+    ensures { λ r. ⌜ outputOf r (now (out .exit)) ≡ run (length (now (out .entry))) (trace (viewOf (now (image .entry)) v)) (at (now (out .entry)) 0) ⌝ }
+{
+    let room = out.len();
+    let rule = name_rule(v);
+    let label = label_of(image, v);
+    let a = put_volume_line(
+        out,
+        room,
+        Position::At(0),
+        rule.caseless,
+        rule.normless,
+        label,
+    );
+    let b = put_node(out, room, a, image, v, 2, 65);
+    put_all(out, room, b, b")\n")
+}
+
+// A refused listing leaves its buffer all zeros.
+pub fn list_volume(image: &[u8], v: Volume, out: &mut [u8]) -> Position
+    ensures { λ r. ⌜ listedAt r (now (out .exit)) ≡ listedOf (listing (viewOf (now (image .entry)) v) (length (now (out .entry)))) (now (out .entry)) ⌝ }
+{
+    let p = put_listing(out, image, v);
+    match p {
+        Position::At(n) => Position::At(n),
+        Position::No(w) => {
+            clear(out);
+            Position::No(w)
+        }
+    }
+}

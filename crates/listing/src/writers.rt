@@ -1,0 +1,83 @@
+// A node's form holds entry forms, and an entry's form holds a node's: the two writers call each other, and the depth that remains falls.
+use cursor::first;
+use cursor::next;
+use error::Refusal;
+use forms::SeenEntry;
+use forms::look_entry;
+use forms::put_head;
+use forms::refuse;
+use lines::put_entry_line;
+use lists::inode;
+use lists::search;
+use records::Entry;
+use records::InodeRead;
+use text::Position;
+use text::put_all;
+use volume::Volume;
+ghost use mathlib.Core.Path.{_≡_};
+ghost use Rattle.text.specs.Output.{outputOf};
+ghost use Rattle.lines.specs.Shown.{entryShown};
+ghost use Rattle.demand.specs.Listing.{nodeForm};
+ghost use Rattle.demand.specs.Demand.{viewOf};
+ghost use Rattle.forms.specs.Run.{run};
+ghost use Rattle.listing.specs.Listed.{entryForm};
+
+// The node of an id, with as many levels as `levels` from it on.
+pub fn put_node(
+    out: &mut [u8],
+    room: usize,
+    p: Position,
+    image: &[u8],
+    v: Volume,
+    id: u64,
+    levels: u32,
+) -> Position
+    ensures { λ r. ⌜ outputOf r (now (out .exit)) ≡ run room (nodeForm (viewOf (now (image .entry)) v) levels id) (outputOf p (now (out .entry))) ⌝ }
+{
+    if levels == 0 {
+        return refuse(p, Refusal::TooDeep);
+    }
+    let found = inode(image, v, id, 0);
+    let read = found.inode;
+    match read {
+        InodeRead::No(w) => refuse(p, w),
+        InodeRead::Got(i) => {
+            let reader = v.reader;
+            let q = search(v, id, 9);
+            let mut o = put_head(out, room, p, image, v, i);
+            let mut s = first(image, q, 0);
+            loop {
+                let at = s.found;
+                match look_entry(image, reader, at) {
+                    SeenEntry::Over => return put_all(out, room, o, b")\n"),
+                    SeenEntry::At(e) => {
+                        o = put_entry(out, room, o, image, v, e, levels - 1);
+                        let c = s.cursor;
+                        s = next(image, q, c, s.nodes);
+                    }
+                }
+            }
+        }
+    }
+}
+
+// An entry's line, its node, and its end. Nothing is read once the position is refused.
+fn put_entry(
+    out: &mut [u8],
+    room: usize,
+    p: Position,
+    image: &[u8],
+    v: Volume,
+    e: Entry,
+    levels: u32,
+) -> Position
+    ensures { λ r. ⌜ outputOf r (now (out .exit)) ≡ run room (entryForm (nodeForm (viewOf (now (image .entry)) v) levels) (entryShown (v .reader) (now (image .entry)) e)) (outputOf p (now (out .entry))) ⌝ }
+{
+    let reader = v.reader;
+    let a = put_entry_line(out, room, p, image, reader, e);
+    if let Position::No(w) = a {
+        return Position::No(w);
+    }
+    let b = put_node(out, room, a, image, v, e.id, levels);
+    put_all(out, room, b, b")\n")
+}
