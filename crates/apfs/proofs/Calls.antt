@@ -70,7 +70,7 @@ minus-back Overflow = refl
 minus-back CharacterNotCovered = refl
 minus-back TooDeep = refl
 
-result-back : (p : Position) → Within p → toZ w64 (ofZ w64 (resultAt p)) ≡ resultAt p
+pub result-back : (p : Position) → Within p → toZ w64 (ofZ w64 (resultAt p)) ≡ resultAt p
 result-back (At n) h = toZ-ofZ {w = w64} (sfits-of h)
 result-back (No e) h = minus-back e
 

@@ -4,3 +4,5 @@ pub mod Attributes
 pub mod Volumes
 pub mod FileReads
 pub mod LinkReads
+pub mod Alike
+pub mod Listings
