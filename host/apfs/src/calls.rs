@@ -48,6 +48,7 @@ extern "C" {
         out: *mut u8,
         out_len: usize,
     ) -> i64;
+    fn apfs_list(image: *const u8, image_len: usize, volume: u64, out: *mut u8, out_len: usize) -> i64;
 }
 
 // Each call below lends live slices for the call's time; the port writes to `out` alone.
@@ -81,4 +82,9 @@ pub fn link(image: &[u8], volume: u64, id: u64, out: &mut [u8]) -> i64 {
 /// The line of the file's extent at `place`; nothing past the last.
 pub fn extent(image: &[u8], volume: u64, id: u64, place: u64, out: &mut [u8]) -> i64 {
     unsafe { apfs_extent(image.as_ptr(), image.len(), volume, id, place, out.as_mut_ptr(), out.len()) }
+}
+
+/// The listing of the whole volume; where refused, `out` is left all zeros.
+pub fn list(image: &[u8], volume: u64, out: &mut [u8]) -> i64 {
+    unsafe { apfs_list(image.as_ptr(), image.len(), volume, out.as_mut_ptr(), out.len()) }
 }

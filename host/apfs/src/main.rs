@@ -4,10 +4,12 @@
 //! apfs ls IMAGE [PATH]      what a directory holds: kind, size, name
 //! apfs stat IMAGE [PATH]    an inode's fields
 //! apfs cat IMAGE PATH       a file's bytes
+//! apfs list IMAGE           the listing of a whole volume
 //! ```
 //!
 //! `--volume N` names another volume than the first, which is 0. Refusals go to standard error, and
-//! the exit status is then 1; it is 2 where the arguments are wrong.
+//! the exit status is then 1; it is 2 where the arguments are wrong. A listing has as much room as it
+//! needs, up to 1 GiB or eight times the image; sparse files may ask for more, which is refusal 6.
 
 mod tool;
 
@@ -17,9 +19,9 @@ use std::process::exit;
 
 use tool::ask::Asked;
 use tool::failure::Failure;
-use tool::{cat, image, ls, stat};
+use tool::{cat, image, list, ls, stat};
 
-const USAGE: &str = "usage: apfs [--volume N] ls IMAGE [PATH] | stat IMAGE [PATH] | cat IMAGE PATH";
+const USAGE: &str = "usage: apfs [--volume N] ls IMAGE [PATH] | stat IMAGE [PATH] | cat IMAGE PATH | list IMAGE";
 
 struct Arguments {
     volume: u64,
@@ -46,11 +48,12 @@ fn command(words: &[OsString]) -> Option<(Command, &OsString, &[u8])> {
         "ls" => ls::run,
         "stat" => stat::run,
         "cat" => cat::run,
+        "list" => list::run,
         _ => return None,
     };
     match rest {
         [image] if name != "cat" => Some((run, image, b"")),
-        [image, path] => Some((run, image, path.as_encoded_bytes())),
+        [image, path] if name != "list" => Some((run, image, path.as_encoded_bytes())),
         _ => None,
     }
 }

@@ -114,11 +114,34 @@ fn a_path_of_any_bytes_is_handed_on() {
 #[test]
 fn wrong_arguments_are_told() {
     let image = Image::of("arguments", b"");
-    for words in [&["cat"][..], &["list"], &["--volume", "x", "ls"], &["--volume"]] {
+    for words in [&["cat"][..], &["lost"], &["--volume", "x", "ls"], &["--volume"]] {
         let o = image.run(words, &[]);
         assert_eq!(o.status.code(), Some(2), "{words:?} {o:?}");
         assert!(String::from_utf8_lossy(&o.stderr).starts_with("usage:"));
     }
+    assert_eq!(image.run(&["list"], &["path"]).status.code(), Some(2));
+}
+
+#[test]
+fn a_volume_is_listed_in_a_buffer_that_grows() {
+    let (contents, bytes) = file();
+    let text = out(Image::holding("list", contents).run(&["list"], &[]));
+    let lines: Vec<&str> = text.lines().collect();
+    let [volume, root, empty, entry, node, data, ")", ")", ")", ")"] = lines[..] else { panic!("{}", lines.len()) };
+    assert_eq!((volume, empty, entry), ("(volume 1 1 x6c61726765", "(data x)", "(entry 100 0 8 x64617461"));
+    assert_eq!(root, "(node 2 2 2 0 0 0 0 0 1 0 0 0 16877 - -");
+    assert_eq!(node, "(node 100 2 100 0 0 0 0 0 1 0 0 0 33261 - 300000,300000");
+    let hex: String = bytes.iter().map(|b| format!("{b:02x}")).collect();
+    assert!(data == format!("(data x{hex})"));
+}
+
+#[test]
+fn a_listing_is_refused_in_words() {
+    let image = Image::holding("deep", large::chain(65, 1));
+    refused(image.run(&["list"], &[]), 10);
+    refused(image.run(&["--volume", "1", "list"], &[]), 4);
+    assert_eq!(out(Image::holding("64", large::chain(64, 1)).run(&["list"], &[])).lines().count(), 3 * 65 + 64 * 2 + 2);
+    refused(Image::of("list-empty", b"").run(&["list"], &[]), 1);
 }
 
 #[test]

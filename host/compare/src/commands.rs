@@ -8,7 +8,7 @@ use compare::calls::{self, Port};
 use compare::comparison::Comparison;
 use compare::opening::{answer, check::check, run::Run, Open};
 use compare::volumes::Volumes;
-use compare::{bench, cases, reach, record, sample};
+use compare::{bench, cases, list, reach, record, sample};
 
 use crate::stop;
 
@@ -22,6 +22,13 @@ fn port() -> Option<Open<'static>> {
 fn calls_port() -> Option<Port<'static>> {
     #[cfg(feature = "calls")]
     return Some(&calls::port);
+    #[cfg(not(feature = "calls"))]
+    None
+}
+
+fn list_port() -> Option<list::Port<'static>> {
+    #[cfg(feature = "calls")]
+    return Some(&compare::port::calls::list);
     #[cfg(not(feature = "calls"))]
     None
 }
@@ -84,6 +91,20 @@ pub fn volumes(seed: u64, count: u64) {
     finish("volumes", run.failure.is_none() && missing.is_empty(), "all agree");
 }
 
+/// Tells what became of images about 2^34 bytes long, where they were asked about.
+fn vast(checked: Option<Result<Option<u64>, String>>) -> bool {
+    match checked {
+        Some(Ok(None)) => println!("images over 2^34 bytes: no room for one"),
+        Some(Ok(Some(n))) => println!("images of 2^34 bytes and one more: {n} calls agree"),
+        Some(Err(e)) => {
+            println!("{e}");
+            return false;
+        }
+        None => {}
+    }
+    true
+}
+
 pub fn calls(seed: u64, count: u64) {
     answer::silence_panics();
     let run = calls::run::Run::over(seed, count, calls_port());
@@ -95,16 +116,25 @@ pub fn calls(seed: u64, count: u64) {
         println!("never seen: {}", missing.join(", "));
         good = false;
     }
-    match calls_port().map(calls::vast::check) {
-        Some(Ok(None)) => println!("images over 2^34 bytes: no room for one"),
-        Some(Ok(Some(n))) => println!("images of 2^34 bytes and one more: {n} calls agree"),
-        Some(Err(e)) => {
-            println!("{e}");
-            good = false;
-        }
-        None => {}
-    }
+    good &= vast(calls_port().map(calls::vast::check));
     finish("calls", good, if calls_port().is_some() { "all agree" } else { "the oracle alone was asked" });
+}
+
+pub fn list(seed: u64, count: u64) {
+    answer::silence_panics();
+    let mut run = list::run::Run::over(seed, count, list_port());
+    if run.failure.is_none() {
+        run.edges(list_port());
+    }
+    print!("seed {seed}, {count} sticks, {} images, {}", run.images, run.tally);
+    let missing = run.tally.missing();
+    let mut good = !run.report_failure(list_port(), Path::new("target"));
+    if good && !missing.is_empty() {
+        println!("never seen: {}", missing.join(", "));
+        good = false;
+    }
+    good &= vast(list_port().map(list::edges::vast));
+    finish("list", good, if list_port().is_some() { "all agree" } else { "the oracle alone was asked" });
 }
 
 pub fn reach(seed: u64, count: u64) {

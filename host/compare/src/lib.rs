@@ -1,5 +1,6 @@
 //! The port as safe functions, and its comparison with the published Rust: leaves ([`leaf`]), the
-//! opening of containers ([`opening`]) and of volumes ([`volumes`]), and the calls on volumes ([`calls`]).
+//! opening of containers ([`opening`]) and of volumes ([`volumes`]), the calls on volumes ([`calls`]) and their
+//! listings ([`list`]).
 //!
 //! The comparison needs the oracle; without the published sources only [`port`], [`leaf`] and the
 //! file format of [`record`] are built.
@@ -15,6 +16,8 @@ pub mod comparison;
 #[cfg(oracle)]
 pub mod expected;
 pub mod leaf;
+#[cfg(oracle)]
+pub mod list;
 #[cfg(oracle)]
 pub mod opening;
 pub mod port;

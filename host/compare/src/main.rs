@@ -11,13 +11,14 @@
 //! cargo run --release -p compare -- sticks --seed 7 --count 20000
 //! cargo run --release -p compare -- volumes         open their volumes
 //! cargo run --release -p compare -- calls           the calls on their volumes
+//! cargo run --release -p compare -- list            the listings of their volumes
 //! cargo run --release -p compare -- reach           every call of the oracle on sticks, and what became of it
 //! cargo run --release -p compare -- open FILE..     open these images, and print each answer
 //! ```
 //!
 //! After `rt staticlib apfs`, with `--features apfs`, `sticks` and `open` hold the port's opening
-//! against the oracle's, and with `--features calls` `calls` does the same of its calls; without
-//! these features they ask the oracle alone. Timings of both:
+//! against the oracle's, and with `--features calls` `calls` and `list` do the same of its calls and its
+//! listings; without these features they ask the oracle alone. Timings of both:
 //!
 //! ```text
 //! cargo run --profile speed --features calls -p compare -- bench
@@ -39,8 +40,10 @@ const DEFAULT_SEED: u64 = 20_261;
 const DEFAULT_STICKS: u64 = 4000;
 /// Each stick has some 260 calls made on it, most of them twice.
 const DEFAULT_FOR_CALLS: u64 = 3000;
+/// Each listing is a walk of the port through a whole volume, for each of two to ten buffers.
+const DEFAULT_FOR_LISTS: u64 = 1600;
 const USAGE: &str =
-    "usage: compare [record FILE | replay FILE | sticks | volumes | calls | reach | bench | open FILE..] \
+    "usage: compare [record FILE | replay FILE | sticks | volumes | calls | list | reach | bench | open FILE..] \
                      [--seed N] [--count K]";
 
 enum Command {
@@ -50,6 +53,7 @@ enum Command {
     Sticks,
     Volumes,
     Calls,
+    List,
     Reach,
     Bench,
     Open(Vec<String>),
@@ -82,7 +86,11 @@ fn arguments() -> Arguments {
         }
     }
     let command = command(&words);
-    let usual = if matches!(command, Command::Calls) { DEFAULT_FOR_CALLS } else { DEFAULT_STICKS };
+    let usual = match command {
+        Command::Calls => DEFAULT_FOR_CALLS,
+        Command::List => DEFAULT_FOR_LISTS,
+        _ => DEFAULT_STICKS,
+    };
     Arguments { command, seed, count: count.unwrap_or(usual) }
 }
 
@@ -94,6 +102,7 @@ fn command(words: &[String]) -> Command {
         ["sticks"] => Command::Sticks,
         ["volumes"] => Command::Volumes,
         ["calls"] => Command::Calls,
+        ["list"] => Command::List,
         ["reach"] => Command::Reach,
         ["bench"] => Command::Bench,
         ["open", _, ..] => Command::Open(words[1..].to_vec()),
@@ -122,6 +131,7 @@ fn main() {
         Command::Sticks => commands::sticks(seed, count),
         Command::Volumes => commands::volumes(seed, count),
         Command::Calls => commands::calls(seed, count),
+        Command::List => commands::list(seed, count),
         Command::Reach => commands::reach(seed, count),
         Command::Bench => commands::bench(),
         Command::Open(files) => commands::open(&files),

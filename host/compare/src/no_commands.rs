@@ -24,6 +24,10 @@ pub fn calls(_seed: u64, _count: u64) {
     none()
 }
 
+pub fn list(_seed: u64, _count: u64) {
+    none()
+}
+
 pub fn reach(_seed: u64, _count: u64) {
     none()
 }

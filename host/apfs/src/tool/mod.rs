@@ -5,6 +5,7 @@ pub mod cat;
 pub mod date;
 pub mod failure;
 pub mod image;
+pub mod list;
 pub mod ls;
 pub mod node;
 pub mod shown;

@@ -7,7 +7,7 @@ use crate::calls::expected::{Answer, Expected};
 use crate::calls::Port;
 
 const TOO_SHORT: i64 = -6;
-const REFUSALS: std::ops::RangeInclusive<i64> = -10..=-1;
+pub const REFUSALS: std::ops::RangeInclusive<i64> = -10..=-1;
 
 pub struct Subject<'a> {
     pub port: Port<'a>,
@@ -16,7 +16,7 @@ pub struct Subject<'a> {
     pub call: &'a Call,
 }
 
-fn pattern(n: usize) -> Vec<u8> {
+pub fn pattern(n: usize) -> Vec<u8> {
     (0..n).map(|i| (i * 37 + 11) as u8).collect()
 }
 

@@ -59,7 +59,7 @@ pub fn by_document(image: &[u8], bs: u64, count: u64, extents: &[Extent], size: 
 }
 
 /// `want` bytes from a block on, whose whole blocks must lie in the image.
-fn blocks(image: &[u8], bs: u64, block: u64, want: u64) -> Result<&[u8], u64> {
+pub fn blocks(image: &[u8], bs: u64, block: u64, want: u64) -> Result<&[u8], u64> {
     if want == 0 {
         return Ok(&[]);
     }

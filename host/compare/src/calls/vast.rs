@@ -12,8 +12,16 @@ const LARGEST: usize = 1 << 34;
 const NO_CONTAINER: u64 = 4;
 const TOO_LARGE: u64 = 7;
 
+/// How many calls on an image are refused with the number, as they must be.
+pub type Agreed<'f> = &'f dyn Fn(&[u8], u64) -> Result<u64, String>;
+
 /// How many calls agreed; none where so much memory, though hardly touched, is not to be had.
 pub fn check(port: Port) -> Result<Option<u64>, String> {
+    over(&|image, number| on(port, image, number))
+}
+
+/// Of an image at the bound and one over it, each with the refusal's number, how many calls agreed.
+pub fn over(on: Agreed) -> Result<Option<u64>, String> {
     let layout = Layout::array::<u8>(LARGEST + 1).expect("a layout");
     // Zeroed memory of this size is given out page by page, when first touched.
     let memory = unsafe { alloc_zeroed(layout) };
@@ -21,7 +29,7 @@ pub fn check(port: Port) -> Result<Option<u64>, String> {
         return Ok(None);
     }
     let all = unsafe { std::slice::from_raw_parts(memory, LARGEST + 1) };
-    let agreed = on(port, &all[..LARGEST], NO_CONTAINER).and_then(|n| Ok(n + on(port, all, TOO_LARGE)?));
+    let agreed = on(&all[..LARGEST], NO_CONTAINER).and_then(|n| Ok(n + on(all, TOO_LARGE)?));
     unsafe { dealloc(memory, layout) };
     agreed.map(Some)
 }

@@ -4,6 +4,7 @@
 #![cfg(oracle)]
 
 mod lines;
+mod listing;
 mod stand;
 mod streams;
 mod vast;

@@ -1,4 +1,4 @@
-//! Volumes for timings: wide directories, and a file in few or many extents.
+//! Volumes for timings and edges: wide directories, deep ones, and a file in few or many extents.
 
 use crate::contents::{Contents, Entry, Extent, Field, File, Inode, Key, Source, Stream, STREAM_FIELD};
 use crate::random::Random;
@@ -59,6 +59,17 @@ pub fn directories(n: u64) -> Contents {
         files.push(File { inode: inode(id, DIRECTORY, Vec::new()), attributes: Vec::new(), entries });
     }
     contents(files, Vec::new())
+}
+
+/// Directories one in the other, `depth` below the root, each entered `times` over.
+pub fn chain(depth: u64, times: u64) -> Contents {
+    let directory = |i: u64| {
+        let id = if i == 0 { ROOT } else { 15 + i };
+        let times = if i < depth { times } else { 0 };
+        let entries = (0..times).map(|k| entry(format!("next-{k}"), 16 + i, DIRECTORY)).collect();
+        File { inode: inode(id, DIRECTORY, Vec::new()), attributes: Vec::new(), entries }
+    };
+    contents((0..=depth).map(directory).collect(), Vec::new())
 }
 
 /// A file `data` of `size` bytes in as many extents.

@@ -7,10 +7,10 @@ use super::records::{Attribute, Data, Extent};
 use super::{test, Answer, Stand};
 
 /// No buffer here is longer.
-const LONGEST: u64 = 1 << 23;
+pub const LONGEST: u64 = 1 << 23;
 
 impl Stand<'_> {
-    fn block_size(&self) -> u64 {
+    pub fn block_size(&self) -> u64 {
         self.c.block_size().into()
     }
 
@@ -59,7 +59,7 @@ impl Stand<'_> {
     }
 
     /// The bytes, or the first of many, and how many there are.
-    fn contents(&self, a: &Attribute) -> Answer<(Vec<u8>, u64)> {
+    pub fn contents(&self, a: &Attribute) -> Answer<(Vec<u8>, u64)> {
         match &a.data {
             Data::Embedded(b) => Ok((b.clone(), b.len() as u64)),
             Data::Stream { id, size } => Ok((self.stream(&self.extents(*id)?, *size)?, *size)),
@@ -92,7 +92,7 @@ impl Stand<'_> {
     }
 
     /// `n` bytes at `skip` from a block on, whose whole blocks lie in the image.
-    fn stored(&self, block: u64, skip: u64, n: u64) -> Answer<&[u8]> {
+    pub fn stored(&self, block: u64, skip: u64, n: u64) -> Answer<&[u8]> {
         if n == 0 {
             return Ok(&[]);
         }

@@ -1,6 +1,7 @@
 //! A port's calls on a volume, with one mistake or none.
 
 mod files;
+pub mod list;
 pub mod mistake;
 mod paths;
 mod records;
@@ -31,7 +32,7 @@ pub fn test(good: bool, refusal: i64) -> Answer<()> {
     }
 }
 
-fn class(e: Error) -> i64 {
+pub fn class(e: Error) -> i64 {
     probe::class(&e) as i64
 }
 
@@ -72,7 +73,7 @@ impl Stand<'_> {
 /// has no two in a row at one address.
 pub type Last = RefCell<Option<(*const u8, usize, Answer<Container>)>>;
 
-fn open(image: &[u8]) -> Answer<Container> {
+pub fn open(image: &[u8]) -> Answer<Container> {
     let image = Arc::new(image.to_vec());
     let c = if outside(&image).is_some() { Ok(Err(1)) } else { caught(|| answer::container(&image).map_err(class)) };
     c.unwrap_or(Err(8))

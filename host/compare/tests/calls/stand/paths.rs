@@ -57,7 +57,7 @@ impl Stand<'_> {
         Err(4)
     }
 
-    fn node(&self, i: &Inode) -> String {
+    pub fn node(&self, i: &Inode) -> String {
         let id = if self.has(M::LookupOfEntryId) { i.head[1] } else { i.id };
         let head: Vec<String> = i.head.iter().map(u64::to_string).collect();
         let links = if self.has(M::LinksUnsigned) { i.links.to_string() } else { (i.links as i32).to_string() };

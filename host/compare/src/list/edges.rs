@@ -1,0 +1,63 @@
+//! Volumes and images that no seed draws.
+
+use sticks::contents::{Contents, Extent, Source};
+use sticks::plan::large;
+use sticks::random::Random;
+use sticks::{make, Plan};
+
+use crate::calls::vast;
+use crate::list::check::Subject;
+use crate::list::trace::{End, Trace};
+use crate::list::Port;
+
+/// Depth below the root, and how often each directory is entered.
+const CHAINS: [(u64, u64); 9] = [(0, 1), (1, 3), (8, 2), (30, 2), (63, 1), (64, 1), (65, 1), (66, 1), (66, 2)];
+
+/// Bytes of a file before the extents below, which are holes: starts and lengths.
+const SOUND: u64 = 8192;
+const HOLES: [&[(u64, u64)]; 7] = [
+    &[(8192, 4096), (12288, 1)],
+    &[(8192, 4096), (12287, 0)],
+    &[(8192, 4096), (9000, 1)],
+    &[(8192, 0), (8192, 4096)],
+    &[(9000, 0), (8192, 0)],
+    &[(u64::MAX - 10, 20)],
+    &[(u64::MAX - 10, 20), (u64::MAX, 0)],
+];
+const SIZES: [u64; 5] = [0, SOUND, 9001, 1 << 40, u64::MAX];
+
+pub fn images() -> Vec<Vec<u8>> {
+    let chains = CHAINS.into_iter().map(|(depth, times)| large::chain(depth, times));
+    let astray = [63, 64].into_iter().map(astray);
+    let files = HOLES.into_iter().flat_map(|holes| SIZES.into_iter().map(|size| file(holes, size)));
+    chains.chain(astray).chain(files).map(|c| make(Plan::with_contents(c, 5)).image).collect()
+}
+
+/// A chain one directory deeper, where that one has no inode.
+fn astray(depth: u64) -> Contents {
+    let mut contents = large::chain(depth + 1, 1);
+    contents.files.pop();
+    contents
+}
+
+/// A file said to have `size` bytes.
+fn file(holes: &[(u64, u64)], size: u64) -> Contents {
+    let mut contents = large::file(SOUND, 2, 4096, &mut Random::new(size));
+    let hole = |&(logical, length): &(u64, u64)| Extent { logical, length, source: Source::Hole };
+    contents.streams[0].extents.extend(holes.iter().map(hole));
+    contents.files[1].inode.fields[0].data[..8].copy_from_slice(&size.to_le_bytes());
+    contents
+}
+
+/// How many calls agreed on images about 2^34 bytes long.
+pub fn vast(port: Port) -> Result<Option<u64>, String> {
+    vast::over(&|image, number| {
+        let lengths = [0, 1, 300];
+        for n in lengths {
+            let subject = Subject { port, image, volume: 0 };
+            let checked = subject.check(&Trace::only(End::Refused(number)), n);
+            checked.map_err(|m| format!("an image of {} bytes: {} and not {}", image.len(), m.got, m.want))?;
+        }
+        Ok(lengths.len() as u64)
+    })
+}

@@ -1,0 +1,153 @@
+//! A run over many sticks.
+
+use std::path::Path;
+use std::sync::Arc;
+
+use sticks::random::Random;
+use sticks::Stick;
+
+use crate::calls::run::damaged;
+use crate::list::buffers::lengths;
+use crate::list::check::{Mismatch, Subject};
+use crate::list::tally::Tally;
+use crate::list::trace::{End, Trace};
+use crate::list::{edges, walk, Port};
+use crate::opening::answer::{self, caught};
+use crate::opening::outside::outside;
+use crate::opening::run::stick_seed;
+use crate::opening::shrink::shrink;
+
+/// How often each stick is damaged.
+const DAMAGES: u64 = 4;
+/// Of a damaged superblock's volumes, no more are listed.
+const VOLUMES: u64 = 5;
+
+pub struct Failure {
+    pub seed: u64,
+    /// The stick's place in the run, or among the edges.
+    pub stick: u64,
+    /// Which damage, from 1; 0 for the stick as it was made.
+    pub damage: u64,
+    pub volume: u64,
+    pub mismatch: Mismatch,
+    pub image: Arc<Vec<u8>>,
+}
+
+#[derive(Default)]
+pub struct Run {
+    pub images: u64,
+    pub tally: Tally,
+    pub failure: Option<Failure>,
+}
+
+type Checked = Result<(), (u64, Mismatch)>;
+
+impl Run {
+    /// Over `count` sticks; without a port the oracle is asked alone. Stops at the first failure.
+    pub fn over(seed: u64, count: u64, port: Option<Port>) -> Run {
+        let mut run = Run::default();
+        for stick in 0..count {
+            let whole = Stick::from_seed(stick_seed(seed, stick));
+            for damage in 0..=DAMAGES {
+                let of = whole.plan.seed;
+                let image = if damage == 0 { whole.image.clone() } else { damaged(&whole.image, of, damage) };
+                let image = Arc::new(image);
+                let random = Random::new(of.wrapping_mul(31).wrapping_add(damage));
+                if let Err((volume, mismatch)) = run.image(&image, port, random) {
+                    run.failure = Some(Failure { seed, stick, damage, volume, mismatch, image });
+                    return run;
+                }
+            }
+        }
+        run
+    }
+
+    /// Chains of directories about as deep as may be, and others that end late or never.
+    pub fn edges(&mut self, port: Option<Port>) {
+        for (i, image) in edges::images().into_iter().enumerate() {
+            let (seed, stick, image) = (0, i as u64, Arc::new(image));
+            if let Err((volume, mismatch)) = self.image(&image, port, Random::new(stick)) {
+                self.failure = Some(Failure { seed, stick, damage: 0, volume, mismatch, image });
+                return;
+            }
+        }
+    }
+
+    /// Every volume of the image, and one that it has not.
+    pub fn image(&mut self, image: &Arc<Vec<u8>>, port: Option<Port>, random: Random) -> Checked {
+        self.images += 1;
+        let mut trial = Trial { image, port, random, tally: &mut self.tally };
+        let opened = if outside(image).is_some() { None } else { caught(|| answer::container(image)).ok() };
+        let Some(Ok(c)) = opened else { return trial.judge(0, walk::of_image(image, 0)) };
+        let slots = (c.sb.fs_oids.len() as u64).min(VOLUMES);
+        for i in 0..slots {
+            trial.judge(i, walk::of_container(image, &c, i))?;
+        }
+        let none = trial.random.pick(&[c.sb.fs_oids.len() as u64, u64::MAX]);
+        trial.judge(none, walk::of_container(image, &c, none))
+    }
+
+    /// Prints the failure, if there was one, and writes its image, made smaller, to a file in `folder`.
+    pub fn report_failure(&self, port: Option<Port>, folder: &Path) -> bool {
+        let Some(f) = &self.failure else { return false };
+        let m = &f.mismatch;
+        let file = folder.join(format!("list-{}-{}-{}.img", f.seed, f.stick, f.damage));
+        println!("seed {}, stick {}, damage {}, volume {}", f.seed, f.stick, f.damage, f.volume);
+        println!("with a buffer of {} bytes {} and not {}: {}", m.length, m.got, m.want, m.words);
+        let image = port.map_or_else(|| f.image.to_vec(), |port| smaller(f, port));
+        match std::fs::create_dir_all(folder).and_then(|()| std::fs::write(&file, &image)) {
+            Ok(()) => println!("{} bytes that show it: {}", image.len(), file.display()),
+            Err(e) => println!("{}: {e}", file.display()),
+        }
+        true
+    }
+}
+
+/// What stays the same while the image is made smaller: the refusals, or that there is none.
+fn kind(m: &Mismatch) -> (i64, i64) {
+    (m.want.min(0), m.got.min(0))
+}
+
+/// The image with all gone that the failure, of the same kind, can do without.
+fn smaller(f: &Failure, port: Port) -> Vec<u8> {
+    let fails = |b: &[u8]| {
+        let image = Arc::new(b.to_vec());
+        let trace = walk::of_image(&image, f.volume);
+        let subject = Subject { port, image: &image, volume: f.volume };
+        let mut tried = lengths(&trace, &mut Random::new(1));
+        tried.push(f.mismatch.length);
+        let same = |m: Mismatch| kind(&m) == kind(&f.mismatch);
+        tried.into_iter().any(|n| subject.check(&trace, n).is_err_and(same))
+    };
+    if fails(&f.image) {
+        shrink(f.image.to_vec(), &fails)
+    } else {
+        f.image.to_vec()
+    }
+}
+
+/// One image, listed.
+struct Trial<'a> {
+    image: &'a [u8],
+    port: Option<Port<'a>>,
+    random: Random,
+    tally: &'a mut Tally,
+}
+
+impl Trial<'_> {
+    fn judge(&mut self, volume: u64, t: Trace) -> Checked {
+        self.tally.listing(&t);
+        if let (None, End::Panic(m)) = (self.port, &t.end) {
+            let words = format!("the oracle panicked: {m}");
+            return Err((volume, Mismatch { length: 0, want: 0, got: 0, words }));
+        }
+        for n in lengths(&t, &mut self.random) {
+            if !matches!(t.end, End::Open(_)) {
+                self.tally.call(t.refusal(n));
+            }
+            let checked = self.port.map(|port| Subject { port, image: self.image, volume }.check(&t, n));
+            checked.unwrap_or(Ok(())).map_err(|m| (volume, m))?;
+        }
+        Ok(())
+    }
+}

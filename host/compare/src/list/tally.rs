@@ -1,0 +1,94 @@
+//! What listings there were, and how often each answer was given.
+
+use std::collections::BTreeMap;
+use std::fmt;
+
+use crate::list::trace::{End, Trace};
+
+#[derive(Clone, Debug, Default)]
+pub struct Tally {
+    /// Volumes whose listings were compared.
+    pub listings: u64,
+    /// Calls, each with a buffer of its own length.
+    pub calls: u64,
+    /// Calls that were answered with a text.
+    pub answered: u64,
+    /// Calls by refusal.
+    pub refused: BTreeMap<u64, u64>,
+    /// Listings by how they end.
+    pub ends: BTreeMap<String, u64>,
+    /// Texts of whole listings by the power of 2 that their length reaches.
+    pub sizes: BTreeMap<u32, u64>,
+    pub longest: usize,
+    pub bytes: u64,
+    /// Listings by the depth of their deepest node.
+    pub depths: BTreeMap<u64, u64>,
+    /// The depth of the deepest whole listing.
+    pub deepest: u64,
+}
+
+/// Refusals that a run must have seen.
+const WANTED: [u64; 7] = [1, 2, 3, 4, 6, 8, 10];
+
+fn named(e: &End) -> String {
+    match e {
+        End::Whole => "whole".into(),
+        End::Refused(n) => format!("refused with {n}"),
+        End::More => "cut off here".into(),
+        End::LongLine => "a line too long".into(),
+        End::Open(why) => format!("not asked, {why}"),
+        End::Panic(_) => "panic".into(),
+    }
+}
+
+impl Tally {
+    pub fn listing(&mut self, t: &Trace) {
+        self.listings += 1;
+        *self.ends.entry(named(&t.end)).or_default() += 1;
+        self.bytes += t.text.len() as u64;
+        if let Some(depth) = t.depth {
+            *self.depths.entry(depth).or_default() += 1;
+        }
+        if t.end == End::Whole {
+            *self.sizes.entry(t.text.len().ilog2()).or_default() += 1;
+            self.longest = self.longest.max(t.text.len());
+            self.deepest = self.deepest.max(t.depth.unwrap_or(0));
+        }
+    }
+
+    pub fn call(&mut self, refusal: Option<u64>) {
+        self.calls += 1;
+        match refusal {
+            Some(n) => *self.refused.entry(n).or_default() += 1,
+            None => self.answered += 1,
+        }
+    }
+
+    pub fn missing(&self) -> Vec<String> {
+        let refusals = WANTED.iter().filter(|n| !self.refused.contains_key(n)).map(|n| format!("refused with {n}"));
+        let depths = [0, 1, 64].iter().filter(|d| !self.depths.contains_key(d)).map(|d| format!("depth {d}"));
+        let text = (self.deepest < 64).then(|| "a whole listing as deep as may be".to_string());
+        refusals.chain(depths).chain(text).collect()
+    }
+}
+
+fn pairs<K: fmt::Display>(map: &BTreeMap<K, u64>) -> String {
+    map.iter().map(|(k, n)| format!("{k} {n}")).collect::<Vec<_>>().join("; ")
+}
+
+impl fmt::Display for Tally {
+    fn fmt(&self, f: &mut fmt::Formatter) -> fmt::Result {
+        writeln!(f, "{} listings, {} calls: {} answered", self.listings, self.calls, self.answered)?;
+        writeln!(f, "calls refused, by number: {}", pairs(&self.refused))?;
+        writeln!(f, "listings by end: {}", pairs(&self.ends))?;
+        let sizes: BTreeMap<String, u64> = self.sizes.iter().map(|(k, n)| (format!("{:7}+", 1u64 << k), *n)).collect();
+        writeln!(
+            f,
+            "whole listings by bytes: {}; longest {}; {} bytes in all",
+            pairs(&sizes),
+            self.longest,
+            self.bytes
+        )?;
+        writeln!(f, "listings by depth: {}; deepest whole one {}", pairs(&self.depths), self.deepest)
+    }
+}

@@ -1,0 +1,142 @@
+//! A listing rebuilt from the oracle's calls, in document 01's order.
+
+use std::sync::Arc;
+
+use oracle::fs::{Inode, Volume};
+use oracle::nx::Container;
+use oracle::probe;
+
+use crate::calls::expected::Stop;
+use crate::calls::{line, stream};
+use crate::list::file;
+use crate::list::trace::{End, Trace, LONGEST};
+use crate::opening::answer::{self, caught};
+use crate::opening::outside::outside;
+
+const ROOT: u64 = 2;
+const DEEPEST: u64 = 64;
+const OVERFLOW: u64 = 8;
+const TOO_DEEP: u64 = 10;
+
+/// Why no more lines follow.
+enum Halt {
+    Stop(Stop),
+    More,
+    LongLine,
+}
+
+impl<T: Into<Stop>> From<T> for Halt {
+    fn from(stop: T) -> Halt {
+        Halt::Stop(stop.into())
+    }
+}
+
+type Walked = Result<(), Halt>;
+
+impl From<Walked> for End {
+    fn from(walked: Walked) -> End {
+        match walked {
+            Ok(()) => End::Whole,
+            Err(Halt::More) => End::More,
+            Err(Halt::LongLine) => End::LongLine,
+            Err(Halt::Stop(Stop::Oracle(e))) => End::Refused(probe::class(&e)),
+            Err(Halt::Stop(Stop::Added(n))) => End::Refused(n),
+            Err(Halt::Stop(Stop::Open(why))) => End::Open(why),
+        }
+    }
+}
+
+/// A panic's account. Once a container is open, every sum that overflows is one that document 01 refuses.
+fn stopped(a: answer::Answer, opened: bool) -> End {
+    match a {
+        answer::Answer::Overflow if opened => End::Refused(OVERFLOW),
+        answer::Answer::Overflow => End::Open("overflow in opening"),
+        other => End::Panic(other.to_string()),
+    }
+}
+
+/// Of an image that nothing is known of.
+pub fn of_image(image: &Arc<Vec<u8>>, volume: u64) -> Trace {
+    if outside(image).is_some() {
+        return Trace::only(End::Open("ring or maps too large"));
+    }
+    match caught(|| answer::container(image)) {
+        Ok(Ok(c)) => of_container(image, &c, volume),
+        Ok(Err(e)) => Trace::only(End::Refused(probe::class(&e))),
+        Err(a) => Trace::only(stopped(a, false)),
+    }
+}
+
+pub fn of_container(image: &[u8], c: &Container, volume: u64) -> Trace {
+    let v = match caught(|| c.volume(volume as usize)) {
+        Ok(Ok(v)) => v,
+        Ok(Err(e)) => return Trace::only(End::Refused(probe::class(&e))),
+        Err(a) => return Trace::only(stopped(a, true)),
+    };
+    let mut walk = Walk { image, c, v: &v, text: Vec::new(), depth: None, weight: 0 };
+    let walked = caught(|| walk.volume());
+    let end = walked.map_or_else(|a| stopped(a, true), End::from);
+    Trace { text: walk.text, depth: walk.depth, weight: walk.weight, end }
+}
+
+struct Walk<'w> {
+    image: &'w [u8],
+    c: &'w Container,
+    v: &'w Volume<'w>,
+    text: Vec<u8>,
+    depth: Option<u64>,
+    weight: u64,
+}
+
+impl Walk<'_> {
+    fn line(&mut self, line: &str) -> Walked {
+        self.text.extend(line.bytes());
+        if self.text.len() > LONGEST {
+            return Err(Halt::More);
+        }
+        Ok(())
+    }
+
+    fn volume(&mut self) -> Walked {
+        let rule = self.v.name_rule();
+        let (case, norm) = (u8::from(rule.case_insensitive), u8::from(rule.normalization_insensitive));
+        self.line(&format!("(volume {case} {norm} {}\n", line::hex(self.v.sb.name.as_bytes())))?;
+        self.node(ROOT, 0)?;
+        self.line(")\n")
+    }
+
+    fn node(&mut self, id: u64, depth: u64) -> Walked {
+        if depth > DEEPEST {
+            return Err(Stop::Added(TOO_DEEP).into());
+        }
+        let inode = if depth == 0 { self.v.root() } else { self.v.inode(id) }?;
+        self.line(&line::node(&inode))?;
+        self.depth = self.depth.max(Some(depth));
+        self.weight += u64::from(self.c.block_size());
+        let attributes = self.v.xattrs(id)?;
+        let entries = self.v.read_dir(id)?;
+        for x in &attributes {
+            match stream::data(self.image, self.c, self.v, x)? {
+                stream::Data::Whole(data) => self.line(&line::attribute(x, &data))?,
+                stream::Data::Long(_) => return Err(Halt::LongLine),
+            }
+        }
+        self.contents(&inode)?;
+        for e in &entries {
+            self.line(&line::entry(e))?;
+            self.node(e.file_id, depth + 1)?;
+            self.line(")\n")?;
+        }
+        self.line(")\n")
+    }
+
+    fn contents(&mut self, inode: &Inode) -> Walked {
+        if inode.is_compressed() {
+            return self.line("(packed)\n");
+        }
+        match file::contents(self.image, self.c, self.v, inode)? {
+            Some(bytes) => self.line(&format!("(data {})\n", line::hex(&bytes))),
+            None => Err(Halt::LongLine),
+        }
+    }
+}
