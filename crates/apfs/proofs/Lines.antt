@@ -14,7 +14,7 @@ use Rattle.text.specs.Words.{ascii, digits}
 use Rattle.text.proofs.Digits.{digits-append}
 use Rattle.text.proofs.Writing.{then}
 use Rattle.nx.specs.Slots.{slotOf, slotCount, slotsIn, volumesOf}
-use Rattle.nx.specs.declared.superblock.Superblock.{Superblock}
+use Rattle.checkpoints.specs.declared.superblock.Superblock.{Superblock}
 use Rattle.apfs.specs.Call.{minus}
 use Rattle.apfs.specs.Container.{numberWords, containerHead}
 

@@ -1,8 +1,8 @@
 // `apfs_open`: the line of a container.
 use crate::answer::result;
+use checkpoints::Superblock;
 use nx::Container;
 use nx::Opening;
-use nx::Superblock;
 use nx::slot_count;
 use nx::slot_of;
 use text::Position;

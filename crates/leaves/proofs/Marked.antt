@@ -10,7 +10,7 @@ use Rattle.bytes.specs.Number.{little}
 use Rattle.checksum.specs.Fletcher.{wordsAt, wordsOf, sum, running, s1, s2, checksum, valid}
 use Rattle.name_hash.specs.Hash.{crc, foldAll, utf32, nameHash, nameLenAndHash}
 use Rattle.node.specs.Node.{laidOut}
-use Rattle.nx.specs.Open.{sizeOk}
+use Rattle.geometry.specs.BlockZero.{sizeOk}
 use Rattle.leaves.specs.Leaves.{valueOr, refusalIn, oneIf}
 
 -- a leaf's fields of a level

@@ -30,17 +30,18 @@ use Rattle.obj.specs.Block.{objectAt}
 use Rattle.obj.specs.Header.{headerAt, kindOf}
 use Rattle.obj.specs.declared.header.ObjHeader.{ObjHeader}
 use Rattle.obj.specs.declared.reader.Reader.{Reader}
-use Rattle.nx.specs.Maps.{mapAt, mapsFrom, mapsFit}
-use Rattle.nx.specs.Checkpoint.{acceptedAt, blockPlace, latestIn}
-use Rattle.nx.specs.Open.{geometryAt, areaAt, openAt}
-use Rattle.nx.specs.declared.geometry.Geometry.{Geometry}
+use Rattle.checkpoints.specs.Maps.{mapAt, mapsFrom, mapsFit}
+use Rattle.checkpoints.specs.Checkpoint.{acceptedAt, blockPlace, latestIn}
+use Rattle.geometry.specs.BlockZero.{geometryAt, areaAt}
+use Rattle.nx.specs.Open.{openAt}
+use Rattle.geometry.specs.declared.Geometry.{Geometry}
 use Rattle.nx.specs.declared.container.Container.{Container}
-use Rattle.nx.specs.declared.superblock.Descriptors.{Descriptors}
-use Rattle.nx.specs.declared.superblock.Superblock.{Superblock}
-use Rattle.nx.proofs.Ring.{enough}
-use Rattle.nx.proofs.Candidate.{number-read, descriptor-fields, superblock-fields, superblock-if, marked-facts, candidate-facts, candidate-if, accepted-facts, accepted-candidate}
-use Rattle.nx.proofs.Latest.{latest-of, none-of}
-use Rattle.nx.proofs.MapList.{counted-facts, map-in-facts, map-facts, each-of, of-each}
+use Rattle.checkpoints.specs.declared.superblock.Descriptors.{Descriptors}
+use Rattle.checkpoints.specs.declared.superblock.Superblock.{Superblock}
+use Rattle.checkpoints.proofs.Ring.{enough}
+use Rattle.checkpoints.proofs.Candidate.{number-read, descriptor-fields, superblock-fields, superblock-if, marked-facts, candidate-facts, candidate-if, accepted-facts, accepted-candidate}
+use Rattle.checkpoints.proofs.Latest.{latest-of, none-of}
+use Rattle.checkpoints.proofs.MapList.{counted-facts, map-in-facts, map-facts, each-of, of-each}
 use Rattle.nx.proofs.Opened.{opened-latest}
 
 -- the fields of a superblock stand in a block's bytes: nx_superblock_t

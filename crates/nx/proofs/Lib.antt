@@ -1,10 +1,4 @@
 pub mod Laws
-pub mod Ring
-pub mod Candidate
-pub mod Choice
-pub mod Area
 pub mod SlotTurns
-pub mod Latest
-pub mod MapList
 pub mod Opened
 pub mod LatestCheckpoint

@@ -8,12 +8,13 @@ use Rattle.error.proofs.Laws.{le-cases, eq-cases, bound}
 use Rattle.obj.specs.declared.reader.Reader.{Reader}
 use Rattle.lookup.specs.Counted.{Counted, after, from}
 use Rattle.omap.specs.Load.{mapAt}
-use Rattle.nx.specs.Checkpoint.{latestIn}
-use Rattle.nx.specs.Open.{geometryAt, areaAt, checkpointOf, supported, chosenOf, mappedOf, containerOf, openAt}
-use Rattle.nx.specs.declared.geometry.Geometry.{Geometry}
+use Rattle.checkpoints.specs.Checkpoint.{latestIn, checkpointOf}
+use Rattle.geometry.specs.BlockZero.{geometryAt, areaAt}
+use Rattle.nx.specs.Open.{supported, chosenOf, mappedOf, containerOf, openAt}
+use Rattle.geometry.specs.declared.Geometry.{Geometry}
 use Rattle.nx.specs.declared.container.Container.{Container}
-use Rattle.nx.specs.declared.superblock.Superblock.{Superblock}
-use Rattle.nx.proofs.Candidate.{never, same-inside}
+use Rattle.checkpoints.specs.declared.superblock.Superblock.{Superblock}
+use Rattle.checkpoints.proofs.Candidate.{never, same-inside}
 
 supported-same : (sb s : Superblock) → supported sb ≡ got s → sb ≡ s
 unfolding supported

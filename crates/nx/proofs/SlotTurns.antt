@@ -12,7 +12,7 @@ use Rattle.error.proofs.Laws.{same, other}
 use Rattle.bytes.specs.Number.{numberAt, told}
 use Rattle.bytes.specs.declared.Number.{Number}
 use Rattle.nx.specs.Slots.{slotAt, slotOf, slotCount, slotsIn, volumesOf, volumeAt}
-use Rattle.nx.specs.declared.superblock.Superblock.{Superblock}
+use Rattle.checkpoints.specs.declared.superblock.Superblock.{Superblock}
 
 module _ (b : List ℕ) (i : ℕ) (r : Number) (p : told r ≡ numberAt 8 b (184 + 8 * i)) where
   pub slot-read : (x : ℕ) → r ≡ Number.Got x → x ≡ slotAt b i

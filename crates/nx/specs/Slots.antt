@@ -5,7 +5,7 @@ use Rattle.error.specs.Answer.{Answer, got, no, ifEq}
 use Rattle.error.specs.declared.Refusal.the-variants.{NotFound}
 use Rattle.bytes.specs.Number.{numberAt}
 use Rattle.bytes.specs.Part.{partOf}
-use Rattle.nx.specs.declared.superblock.Superblock.{Superblock}
+use Rattle.checkpoints.specs.declared.superblock.Superblock.{Superblock}
 
 abbrev pub orZero : Answer ℕ → ℕ
 orZero (got n) = n

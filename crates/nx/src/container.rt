@@ -1,19 +1,17 @@
 // Opening a container.
-use crate::checkpoint::latest_checkpoint;
-use crate::geometry::Geometry;
-use crate::geometry::Measured;
-use crate::geometry::area_at;
-use crate::geometry::geometry_at;
-use crate::superblock::Superblock;
-use crate::superblock::Superblocked;
-use bytes::Number;
+use checkpoints::Superblock;
+use checkpoints::Superblocked;
+use checkpoints::checkpoint_of;
 use error::Refusal;
+use geometry::Geometry;
+use geometry::Measured;
+use geometry::geometry_at;
 use lookup::Map;
 use obj::Reader;
 use omap::Loading;
 ghost use mathlib.Core.Path.{_≡_};
-ghost use Rattle.nx.specs.Superblock.{superTold};
-ghost use Rattle.nx.specs.Open.{checkpointOf, supported, chosenOf, openedTold, mappedOf, containerOf, openAt};
+ghost use Rattle.checkpoints.specs.Superblock.{superTold};
+ghost use Rattle.nx.specs.Open.{supported, chosenOf, openedTold, mappedOf, containerOf, openAt};
 
 pub struct Container {
     pub reader: Reader,
@@ -30,15 +28,6 @@ pub enum Opening {
 pub struct Opened {
     pub container: Opening,
     pub nodes: u64,
-}
-
-fn checkpoint_of(image: &[u8], g: Geometry) -> Superblocked
-    ensures { λ r. ⌜ superTold r ≡ checkpointOf (now (image .entry)) g ⌝ }
-{
-    match area_at(image.len(), g) {
-        Number::Got(start) => latest_checkpoint(g.reader, image, start, g.ring),
-        Number::No(e) => Superblocked::No(e),
-    }
 }
 
 // Version 1 and Fusion containers are refused.

@@ -1,8 +1,8 @@
 // The volume slots of a superblock: the first 100 at most, zeros dropped.
-use crate::superblock::Superblock;
 use bytes::Number;
 use bytes::part;
 use bytes::u64_at;
+use checkpoints::Superblock;
 use error::Refusal;
 ghost use mathlib.Core.Path.{_≡_};
 ghost use Rattle.bytes.specs.Number.{told};

@@ -1,0 +1,6 @@
+pub mod Laws
+pub mod Ring
+pub mod Candidate
+pub mod Choice
+pub mod Latest
+pub mod MapList

@@ -1,0 +1,3 @@
+pub mod Superblock
+pub mod Maps
+pub mod Checkpoint

@@ -1,0 +1,88 @@
+// The fields of a superblock that opening reads.
+use bytes::Number;
+use bytes::Span;
+use bytes::u32_at;
+use bytes::u64_at;
+use error::Refusal;
+ghost use mathlib.Core.Path.{_≡_};
+ghost use Rattle.checkpoints.specs.Superblock.{describedTold, descriptorsAt, superTold, superblockAt};
+
+// Where a checkpoint says that its own descriptor blocks lie.
+pub struct Descriptors {
+    pub base: u64,
+    pub index: u32,
+    pub len: u32,
+}
+
+pub enum Described {
+    Got(Descriptors),
+    No(Refusal),
+}
+
+pub struct Superblock {
+    pub place: Span,
+    pub xid: u64,
+    pub incompat: u64,
+    pub omap_oid: u64,
+    pub max_volumes: u32,
+    pub descriptors: Descriptors,
+}
+
+pub enum Superblocked {
+    Got(Superblock),
+    No(Refusal),
+}
+
+fn descriptors_at(b: &[u8]) -> Described
+    ensures { λ r. ⌜ describedTold r ≡ descriptorsAt (now (b .entry)) ⌝ }
+{
+    let base = match u64_at(b, 112) {
+        Number::Got(x) => x,
+        Number::No(e) => return Described::No(e),
+    };
+    let index = match u32_at(b, 136) {
+        Number::Got(x) => x,
+        Number::No(e) => return Described::No(e),
+    };
+    match u32_at(b, 140) {
+        Number::Got(len) => Described::Got(Descriptors {
+            base: base,
+            index: index as u32,
+            len: len as u32,
+        }),
+        Number::No(e) => Described::No(e),
+    }
+}
+
+// The superblock in the bytes of a block that lies at a place of the image.
+pub fn superblock_at(b: &[u8], place: Span) -> Superblocked
+    ensures { λ r. ⌜ superTold r ≡ superblockAt (now (b .entry)) place ⌝ }
+{
+    let xid = match u64_at(b, 16) {
+        Number::Got(x) => x,
+        Number::No(e) => return Superblocked::No(e),
+    };
+    let incompat = match u64_at(b, 64) {
+        Number::Got(x) => x,
+        Number::No(e) => return Superblocked::No(e),
+    };
+    let omap_oid = match u64_at(b, 160) {
+        Number::Got(x) => x,
+        Number::No(e) => return Superblocked::No(e),
+    };
+    let max_volumes = match u32_at(b, 180) {
+        Number::Got(x) => x,
+        Number::No(e) => return Superblocked::No(e),
+    };
+    match descriptors_at(b) {
+        Described::Got(d) => Superblocked::Got(Superblock {
+            place: place,
+            xid: xid,
+            incompat: incompat,
+            omap_oid: omap_oid,
+            max_volumes: max_volumes as u32,
+            descriptors: d,
+        }),
+        Described::No(e) => Superblocked::No(e),
+    }
+}
