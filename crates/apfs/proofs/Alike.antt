@@ -25,7 +25,10 @@ use Rattle.demand.specs.Demand.{withContents, entriesAnswer, attributesAnswer, 
 use Rattle.demand.proofs.Counts.{onto-answer, inode-even, entries-even, attributes-even, contents-even, read-even}
 use Rattle.demand.proofs.Lookups.{lookup-shown, lookup-of-view}
 use Rattle.demand.proofs.Demand.{third-demand}
-use Rattle.apfs.specs.Texts.{onVolume, entryShow, entryOn, entryText, lookupOn, lookupText, attributeOf, attributeShow, attributeOn, attributeText, readOn, readText}
+use Rattle.calls.specs.OnVolume.{onVolume}
+use Rattle.element_lines.specs.Elements.{entryShow, entryOn, entryText, lookupOn, lookupText}
+use Rattle.attribute_lines.specs.Attributes.{attributeOf, attributeShow, attributeOn, attributeText}
+use Rattle.reads.specs.Reads.{readOn, readText}
 
 -- the line of an entry at a place, nothing past the end
 abbrev pub entryLineAt : Option EntryShown → List ℕ

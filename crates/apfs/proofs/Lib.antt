@@ -1,8 +1,3 @@
-pub mod Lines
-pub mod Calls
-pub mod Attributes
-pub mod Volumes
-pub mod FileReads
-pub mod LinkReads
-pub mod Alike
+pub mod Results
 pub mod Listings
+pub mod Alike

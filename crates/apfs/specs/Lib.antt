@@ -1,3 +1,1 @@
 pub mod Call
-pub mod Container
-pub mod Texts

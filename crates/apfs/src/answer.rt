@@ -2,7 +2,6 @@
 use error::Refusal;
 use text::Position;
 ghost use mathlib.Core.Path.{_≡_};
-ghost use Prim.Native.Nat.{_^_, _<_};
 ghost use Rattle.error.specs.Answer.{numberOf};
 ghost use Rattle.apfs.specs.Call.{minus, resultAt, Within};
 

@@ -20,13 +20,14 @@ use Rattle.records.specs.Extent.{extentAt}
 use Rattle.records.specs.declared.extent.Extent.{Extent}
 use Rattle.records.specs.declared.inode.Inode.{Inode}
 use Rattle.lists.specs.Lists.{listOf, extentsOf, searchOf}
+use Rattle.calls.specs.Filled.{Filled, answered}
+use Rattle.calls.proofs.Filling.{filled-fits, filled-nothing}
 use Rattle.files.specs.Verdict.{Verdict, fine, _>>_}
 use Rattle.files.specs.Ruling.{ruled}
 use Rattle.files.specs.Read.{Disk, diskOf, start, chain, seek, since, decide, span, bytes, readAt}
 use Rattle.files.specs.Copy.{lay, Ready}
 use Rattle.files.specs.Extents.{before, extentsIn}
 use Rattle.files.specs.Judge.{judgeOf, Decided}
-use Rattle.files.specs.Filled.{filled}
 use Rattle.files.specs.File.{sizeOf, packed, readOver, readFile, stopOf, readTold}
 use Rattle.files.specs.declared.verdict.Ruling.the-variants.{Fine, No}
 use Rattle.files.specs.declared.deciding.Judged.{Judged}
@@ -125,17 +126,14 @@ seek-rises off at best (e ∷ es) b c = go (le-or-gt (e .logical) off) (seek-ris
 -- ---- what the call says
 
 module _ (c : Counted (List ℕ)) (s : ℕ) (out : List ℕ) where
-  pub told-no : (e : Refusal) → after s (no e) ≡ c → readTold (record { count = number.No e; nodes = s }) out ≡ filled c out
-  unfolding filled
+  pub told-no : (e : Refusal) → after s (no e) ≡ c → readTold (record { count = number.No e; nodes = s }) out ≡ answered c out
   told-no e h = rw (← h)
 
-  pub told-none : after s (got []) ≡ c → readTold (record { count = number.Got 0; nodes = s }) out ≡ filled c out
-  unfolding filled
-  told-none h = rw (← h)
+  pub told-none : after s (got []) ≡ c → readTold (record { count = number.Got 0; nodes = s }) out ≡ answered c out
+  told-none h = rw (← h) (ap (λ (f : Filled). record { nodes = s; result = f }) (filled-nothing out))
 
-  pub told-bytes : (n : ℕ) (bs : List ℕ) → length bs ≡ n → after s (got bs) ≡ c → readTold (record { count = number.Got n; nodes = s }) (bs ++ drop n out) ≡ filled c out
-  unfolding filled
-  told-bytes n bs l h = rw (← h, ← l)
+  pub told-bytes : (n : ℕ) (bs : List ℕ) → length bs ≡ n → n ≤ length out → after s (got bs) ≡ c → readTold (record { count = number.Got n; nodes = s }) (bs ++ drop n out) ≡ answered c out
+  told-bytes n bs l k h = rw (← h, ← l) (ap (λ (f : Filled). record { nodes = s; result = f }) (filled-fits bs out (omega arith)))
 
 -- ---- the two passes of a read
 
@@ -183,10 +181,10 @@ part-length n k out h = simp length-take (omega arith)
 
 -- the same of the call: out is the buffer that it was lent
 module _ (b : List ℕ) (q : Search) (size off s n m : ℕ) (out : List ℕ) (qn : n ≡ min (length out) (size - off)) (qm : m ≡ stopOf size off n) (r : Judged) (w : Decided b q off m s r) where
-  pub call-refused : (e : Refusal) → r .ruling ≡ No e → readTold (record { count = number.No e; nodes = r .nodes }) out ≡ filled (readOver b q size off (length out) s) out
+  pub call-refused : (e : Refusal) → r .ruling ≡ No e → readTold (record { count = number.No e; nodes = r .nodes }) out ≡ answered (readOver b q size off (length out) s) out
   call-refused e h = told-no _ (r .nodes) out e (file-refused b q size off (length out) s n m qn qm r w e h)
 
-  pub call-none : r .ruling ≡ Fine → n ≡ 0 → readTold (record { count = number.Got 0; nodes = r .nodes }) out ≡ filled (readOver b q size off (length out) s) out
+  pub call-none : r .ruling ≡ Fine → n ≡ 0 → readTold (record { count = number.Got 0; nodes = r .nodes }) out ≡ answered (readOver b q size off (length out) s) out
   call-none h z = told-none _ (r .nodes) out (file-none b q size off (length out) s n m qn qm r w h z)
 
   pub call-ready : r .ruling ≡ Fine → (n ≡ 0 → ⊥) → size < 2 ^ 64
@@ -194,17 +192,17 @@ module _ (b : List ℕ) (q : Search) (size off s n m : ℕ) (out : List ℕ) (qn
   call-ready h z k = rw (← part-length n (size - off) out qn) (omega arith, file-ready b q size off (length out) s n m qn qm r w h (omega arith))
 
   pub call-filled : r .ruling ≡ Fine → (bs : List ℕ) → bs ≡ lay (diskOf (q .reader) b) off (extentsIn (extentAt (q .reader) b) (runOf b q (r .kept))) (replicate (length (take n out)) 0)
-      → readTold (record { count = number.Got n; nodes = r .nodes }) (bs ++ drop n out) ≡ filled (readOver b q size off (length out) s) out
+      → readTold (record { count = number.Got n; nodes = r .nodes }) (bs ++ drop n out) ≡ answered (readOver b q size off (length out) s) out
   call-filled h bs e =
       let f : bs ≡ lay (diskOf (q .reader) b) off (extentsIn (extentAt (q .reader) b) (runOf b q (r .kept))) (replicate n 0) = rw (← part-length n (size - off) out qn) at e in
-      told-bytes _ (r .nodes) out n bs (rw f (lay-length (diskOf (q .reader) b) off _ (replicate n 0) ∙ length-replicate n 0)) (file-bytes b q size off (length out) s n m qn qm r w h bs f)
+      told-bytes _ (r .nodes) out n bs (rw f (lay-length (diskOf (q .reader) b) off _ (replicate n 0) ∙ length-replicate n 0)) (omega arith) (file-bytes b q size off (length out) s n m qn qm r w h bs f)
 
 module _ (b : List ℕ) (v : Volume) (i : Inode) (off len s : ℕ) (out : List ℕ) where
-  pub file-packed : packed i ≡ 1 → readTold (record { count = number.No Unsupported; nodes = s }) out ≡ filled (readFile b v i off len s) out
+  pub file-packed : packed i ≡ 1 → readTold (record { count = number.No Unsupported; nodes = s }) out ≡ answered (readFile b v i off len s) out
   unfolding readFile
   file-packed h = told-no _ s out Unsupported (same _ _ _ _ _ h refl)
 
   pub file-read : (x : FileRead) (last : List ℕ) (q : Search) (size : ℕ) → (packed i ≡ 1 → ⊥) → q ≡ searchOf v (i .ids .«private_id») 8 → size ≡ sizeOf i
-      → readTold x last ≡ filled (readOver b q size off len s) out → readTold x last ≡ filled (readFile b v i off len s) out
+      → readTold x last ≡ answered (readOver b q size off len s) out → readTold x last ≡ answered (readFile b v i off len s) out
   unfolding readFile readOver extentsOf
-  file-read x last q size h e k w = (rw (e, k) at w) ∙ ap (λ (c : Counted (List ℕ)). filled c out) (other _ _ _ _ _ h refl)
+  file-read x last q size h e k w = (rw (e, k) at w) ∙ ap (λ (c : Counted (List ℕ)). answered c out) (other _ _ _ _ _ h refl)

@@ -13,8 +13,8 @@ use Rattle.records.specs.declared.inode.Inode.{Inode}
 use Rattle.records.specs.declared.fields.StreamField.{StreamField}
 use Rattle.records.specs.declared.fields.StreamField.the-variants as stream
 use Rattle.lists.specs.Lists.{listOf, extentsOf}
+use Rattle.calls.specs.Filled.{Answered}
 use Rattle.files.specs.Read.{diskOf, readAt, readAll}
-use Rattle.files.specs.Filled.{Filled}
 use Rattle.files.specs.declared.read.FileRead.{FileRead}
 
 abbrev pub streamSize : StreamField → ℕ
@@ -50,5 +50,5 @@ abbrev pub stopOf : ℕ → ℕ → ℕ → ℕ
 stopOf size off n = ifLe size off 0 (off + n)
 
 -- what a call says, and the buffer as it leaves it
-abbrev pub readTold : FileRead → List ℕ → Filled
-readTold r out = record { nodes = r .nodes; count = told (r .count); buffer = out }
+abbrev pub readTold : FileRead → List ℕ → Answered
+readTold r out = record { nodes = r .nodes; result = record { answer = told (r .count); buffer = out } }

@@ -5,5 +5,4 @@ pub mod Copy
 pub mod Ruling
 pub mod Extents
 pub mod Judge
-pub mod Filled
 pub mod File

@@ -13,7 +13,7 @@ use volume::Volume;
 ghost use mathlib.Core.Path.{_≡_};
 ghost use Prim.Native.Nat.{_+_, _-_, _≤_, min};
 ghost use lib.ListN.{length};
-ghost use Rattle.files.specs.Filled.{filled};
+ghost use Rattle.calls.specs.Filled.{answered};
 ghost use Rattle.files.specs.File.{sizeOf, stopOf, readOver, readFile, readTold};
 
 // How many bytes were read, and the nodes gone through.
@@ -55,7 +55,7 @@ fn stop_of(size: u64, off: u64, n: u64) -> u64
 
 // All is decided before the buffer is touched.
 fn read_over(image: &[u8], q: Search, size: u64, off: u64, out: &mut [u8], nodes: u64) -> FileRead
-    ensures { λ r. ⌜ readTold r (now (out .exit)) ≡ filled (readOver (now (image .entry)) q size off (length (now (out .entry))) nodes) (now (out .entry)) ⌝ }
+    ensures { λ r. ⌜ readTold r (now (out .exit)) ≡ answered (readOver (now (image .entry)) q size off (length (now (out .entry))) nodes) (now (out .entry)) ⌝ }
 {
     let n = wanted(size, off, out.len() as u64);
     let j = judge(image, q, off, stop_of(size, off, n), nodes);
@@ -92,7 +92,7 @@ pub fn read_at(
     out: &mut [u8],
     nodes: u64,
 ) -> FileRead
-    ensures { λ r. ⌜ readTold r (now (out .exit)) ≡ filled (readFile (now (image .entry)) v inode offset (length (now (out .entry))) nodes) (now (out .entry)) ⌝ }
+    ensures { λ r. ⌜ readTold r (now (out .exit)) ≡ answered (readFile (now (image .entry)) v inode offset (length (now (out .entry))) nodes) (now (out .entry)) ⌝ }
 {
     let owner = inode.owner;
     if owner.bsd_flags / 32 % 2 == 1 {

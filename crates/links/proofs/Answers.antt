@@ -15,8 +15,9 @@ use Rattle.lists.specs.declared.attributes.AttributeFound.{AttributeFound}
 use Rattle.files.specs.declared.verdict.Ruling.{Ruling}
 use Rattle.streams.specs.Streams.{settledTold}
 use Rattle.streams.specs.declared.settle.Settled.{Settled}
+use Rattle.calls.specs.Filled.{Filled, filled, Answered, answered}
 use Rattle.links.specs.Named.{attributeNamed}
-use Rattle.links.specs.Link.{textOf, targetOf, symlinkName, linkOf, Filled, filled, Answered, answered}
+use Rattle.links.specs.Link.{textOf, targetOf, symlinkName, linkOf}
 use Rattle.links.specs.Settled.{settledContents, contentBytes}
 use Rattle.links.proofs.Targets.{contents-settled}
 

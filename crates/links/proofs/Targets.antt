@@ -1,21 +1,12 @@
 -- The contents of an attribute, by their form, and the text that is written of them.
 use Prim.Native.Nat.{ℕ}
-use mathlib.Core.Path.{_≡_, refl, sym, _∙_}
-use mathlib.Core.List.{List, [], _∷_, _++_, append-nil}
-use lib.ListN.{length, drop}
-use native.Mathlib.Omega.{arith}
+use mathlib.Core.Path.{_≡_, refl, _∙_}
+use mathlib.Core.List.{List, [], _++_, append-nil}
 use borrow.Author.Needs.{needs}
-use Rattle.error.specs.Answer.{got, no}
-use Rattle.error.specs.declared.Refusal.{Refusal}
-use Rattle.error.specs.declared.Refusal.the-variants.{BufferTooShort}
-use Rattle.error.proofs.Laws.{at-most, above}
-use Rattle.bytes.specs.Number.{told}
-use Rattle.bytes.specs.declared.Number.{Number}
+use Rattle.error.specs.Answer.{got}
 use Rattle.bytes.specs.declared.Span.{Span}
-use Rattle.text.specs.Output.{Output, at, outputOf, puts, whole}
-use Rattle.text.specs.declared.Position.{Position}
-use Rattle.text.specs.declared.Position.the-variants.{At, No}
-use Rattle.text.proofs.Whole.{too-short, long-enough, written-next}
+use Rattle.text.specs.Output.{Output, at, puts}
+use Rattle.text.specs.declared.Position.the-variants.{At}
 use Rattle.feed.specs.Fed.{fed, begun}
 use Rattle.feed.specs.declared.feed.Feed.{Feed}
 use Rattle.lookup.specs.Counted.{Counted, after, onto}
@@ -28,8 +19,8 @@ use Rattle.records.specs.declared.attribute.StreamData.{StreamData}
 use Rattle.files.specs.Verdict.{fine}
 use Rattle.streams.specs.Streams.{settledOf, streamBytes}
 use Rattle.streams.proofs.Contents.{stream-settled}
-use Rattle.links.specs.Link.{contentsBy, textOf, Filled, filled}
-use Rattle.links.specs.Settled.{settledBy, bytesBy, positioned}
+use Rattle.links.specs.Link.{contentsBy, textOf}
+use Rattle.links.specs.Settled.{settledBy, bytesBy}
 
 module _ (b : List ℕ) (v : Volume) (d : AttributeData) (s : ℕ) where
   pub settled-embedded : (x : Span) → d ≡ Embedded x → after s fine ≡ settledBy b v d s
@@ -60,33 +51,4 @@ pub text-put : (room : ℕ) (f g : Feed) (o c x : List ℕ) (z : Output) → ((r
 unfolding begun textOf
 text-put room f g o c x z h k e = e ∙ k [] ∙ h room o (x ++ []) ∙ rw append-nil
 
-module _ (p : Position) where
-  pub number-got : (n : ℕ) → p ≡ At n → got n ≡ positioned p
-  number-got n e = rw e
-
-  pub number-no : (e : Refusal) → p ≡ No e → no e ≡ positioned p
-  number-no e h = rw h
-
--- a text that was measured over l, which has no byte, and then written where it fits
-module _ (t b l : List ℕ) (r : Position) (k : length l ≡ 0) (h : outputOf r l ≡ puts (length b) t (at [] 0)) where
-  pub filled-short : (e : Refusal) → r ≡ No e → record { answer = no e; buffer = l ++ b } ≡ filled t b
-  unfolding filled
-  filled-short e q =
-      let s = too-short t b r l h e q in
-      above _ _ _ _ _ (s .0) (of l k (s .1))
-    where
-      of : (m : List ℕ) → length m ≡ 0 → e ≡ BufferTooShort → _≡_ {A = Filled} (record { answer = no e; buffer = m ++ b }) (record { answer = no BufferTooShort; buffer = b })
-      of [] z w = rw w
-      of (x ∷ m) z w = absurd (omega arith)
-
-  pub filled-written : (n : ℕ) (p : Position) (x : List ℕ) (z : Number) → r ≡ At n → outputOf p x ≡ puts (length b) t (at (l ++ b) 0) → told z ≡ positioned p → record { answer = told z; buffer = x } ≡ filled t b
-  unfolding filled whole
-  filled-written n p x z q e u =
-      let s = long-enough t b r l h n q .0 in
-      at-most _ _ _ _ _ s (rw u (of p (written-next t b l _ k e ∙ sym (at-most _ _ _ _ _ s refl))))
-    where
-      of : (p : Position) → outputOf p x ≡ at (t ++ drop (length t) b) (length t) → _≡_ {A = Filled} (record { answer = positioned p; buffer = x }) (record { answer = got (length t); buffer = t ++ drop (length t) b })
-      of (At m) j = let u : m ≡ length t = cc in let v : x ≡ t ++ drop (length t) b = cc in rw (u, v)
-      of (No e) j = absurd (let z : _≡_ {A = ℕ} 0 1 = cc in omega arith)
-
-pub ruleset targets = (needs, settled-embedded, settled-stream, pushed-embedded, pushed-stream, text-put, number-got, number-no)
+pub ruleset targets = (needs, settled-embedded, settled-stream, pushed-embedded, pushed-stream, text-put)

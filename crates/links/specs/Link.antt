@@ -1,11 +1,10 @@
 -- The text of a symbolic link, and how it is answered into a buffer. fs.rs, `read_link` and `read_xattr`; document 01, "Records" and
 -- "Answers other than success".
 use Prim.Native.Nat.{ℕ}
-use mathlib.Core.List.{List, [], _++_}
+use mathlib.Core.List.{List, []}
 use mathlib.Core.Option.{Option, none, some}
-use lib.ListN.{length, drop}
-use Rattle.error.specs.Answer.{Answer, got, no, ifLe}
-use Rattle.error.specs.declared.Refusal.the-variants.{Corrupt, BufferTooShort}
+use Rattle.error.specs.Answer.{got, no}
+use Rattle.error.specs.declared.Refusal.the-variants.{Corrupt}
 use Rattle.bytes.specs.Number.{told}
 use Rattle.bytes.specs.Part.{upToZero}
 use Rattle.utf8.specs.Text.{lossy}
@@ -19,6 +18,7 @@ use Rattle.records.specs.declared.attribute.AttributeData.{AttributeData}
 use Rattle.records.specs.declared.attribute.AttributeData.the-variants.{Embedded, Stream}
 use Rattle.records.specs.declared.inode.Inode.{Inode}
 use Rattle.streams.specs.Streams.{streamOf}
+use Rattle.calls.specs.Filled.{Answered}
 use Rattle.links.specs.Named.{attributeNamed}
 use Rattle.links.specs.declared.link.LinkRead.{LinkRead}
 
@@ -49,31 +49,6 @@ symlinkName = ascii "com.apple.fs.symlink" []
 -- fs.rs, `read_link`: the first attribute of that name, and 2 where there is none
 unfoldable pub linkOf : List ℕ → Volume → Inode → ℕ → Counted (List ℕ)
 linkOf b v inode s = onto (attributeNamed b v (inode .id) symlinkName s) λ o t. targetIn b v o t
-
--- how many bytes were written, or the refusal; and the buffer
-pub record Filled : Type 0 where
-  pub answer : Answer ℕ
-  pub buffer : List ℕ
-
--- "6 (added) buffer shorter than the answer: for attributes and links, after every other test", "any other refusal leaves buffers unchanged.
--- Success writes nothing past its answer"
-unfoldable pub filled : List ℕ → List ℕ → Filled
-filled t b =
-    ifLe (length t) (length b)
-    (record { answer = got (length t); buffer = t ++ drop (length t) b })
-    (record { answer = no BufferTooShort; buffer = b })
-
-abbrev pub filledBy : Answer (List ℕ) → List ℕ → Filled
-filledBy (got t) b = filled t b
-filledBy (no e) b = record { answer = no e; buffer = b }
-
--- the same with the nodes gone through
-pub record Answered : Type 0 where
-  pub nodes : ℕ
-  pub result : Filled
-
-abbrev pub answered : Counted (List ℕ) → List ℕ → Answered
-answered c b = record { nodes = c .nodes; result = filledBy (c .answer) b }
 
 -- what the call says
 abbrev pub linkTold : LinkRead → List ℕ → Answered

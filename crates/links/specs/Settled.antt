@@ -2,9 +2,6 @@
 -- buffers unchanged".
 use Prim.Native.Nat.{ℕ}
 use mathlib.Core.List.{List}
-use Rattle.error.specs.Answer.{Answer, got, no}
-use Rattle.text.specs.declared.Position.{Position}
-use Rattle.text.specs.declared.Position.the-variants.{At, No}
 use Rattle.lookup.specs.Counted.{Counted, after}
 use Rattle.btree.specs.declared.entries.Place.{Place}
 use Rattle.volume.specs.declared.Volume.{Volume}
@@ -28,8 +25,3 @@ bytesBy b v p (Stream d) s = streamBytes b v (d .object) (d .size) s
 
 abbrev pub contentBytes : List ℕ → Volume → Attribute → ℕ → List ℕ
 contentBytes b v a s = bytesBy b v (a .place) (a .contents) s
-
--- a position as a number of bytes
-abbrev pub positioned : Position → Answer ℕ
-positioned (At n) = got n
-positioned (No e) = no e

@@ -10,7 +10,8 @@ use records::Attribute;
 use records::Inode;
 use volume::Volume;
 ghost use mathlib.Core.Path.{_≡_};
-ghost use Rattle.links.specs.Link.{linkTold, answered, targetOf, linkOf};
+ghost use Rattle.calls.specs.Filled.{answered};
+ghost use Rattle.links.specs.Link.{linkTold, targetOf, linkOf};
 
 // How many bytes were written, and the nodes gone through.
 pub struct LinkRead {

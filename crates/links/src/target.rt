@@ -1,6 +1,7 @@
 // The contents of an attribute, read as a text.
 use crate::pour::push_stream;
 use bytes::Number;
+use calls::number_at;
 use feed::Feed;
 use feed::begin;
 use feed::finish;
@@ -20,8 +21,9 @@ ghost use Rattle.bytes.specs.Number.{told};
 ghost use Rattle.text.specs.Output.{at, outputOf, puts};
 ghost use Rattle.feed.specs.Fed.{fed};
 ghost use Rattle.streams.specs.Streams.{settledTold};
-ghost use Rattle.links.specs.Link.{textOf, filled};
-ghost use Rattle.links.specs.Settled.{settledContents, contentBytes, positioned};
+ghost use Rattle.calls.specs.Filled.{filled};
+ghost use Rattle.links.specs.Link.{textOf};
+ghost use Rattle.links.specs.Settled.{settledContents, contentBytes};
 
 // Whether the contents can be read.
 pub fn settle_contents(image: &[u8], v: Volume, a: Attribute, nodes: u64) -> Settled
@@ -76,15 +78,6 @@ fn put_text(
     let f = begin(Position::At(0));
     let g = push_contents(out, room, f, image, v, a, nodes);
     finish(out, room, g)
-}
-
-fn number_at(p: Position) -> Number
-    ensures { λ r. ⌜ told r ≡ positioned p ⌝ }
-{
-    match p {
-        Position::At(n) => Number::Got(n as u64),
-        Position::No(e) => Number::No(e),
-    }
 }
 
 // Measured first: a buffer that is too short is left as it was.

@@ -1,9 +1,9 @@
 // The lister: an image of at most 65,536 bytes on standard input, the listing of its volume 0 on standard output. Document 01, "The listing (added)".
-use apfs::list_text;
 use bytes::Span;
 use bytes::part;
 use error::Refusal;
 use error::number_of;
+use listing::list_text;
 use text::Position;
 
 fn print_refusal(e: Refusal) {

@@ -6,7 +6,7 @@ use mathlib.Core.Logic.{_⊎_, inl, inr}
 use native.Mathlib.Omega.{arith}
 use borrow.Author.Needs.{needs}
 use lib.ListN.{length, drop, replicate}
-use Rattle.error.specs.Answer.{Answer, got, no}
+use Rattle.error.specs.Answer.{Answer, got, no, _>>=_}
 use Rattle.error.specs.declared.Refusal.{Refusal}
 use Rattle.error.specs.declared.Refusal.the-variants.{BufferTooShort}
 use Rattle.error.proofs.Laws.{at-most, above}
@@ -15,18 +15,23 @@ use Rattle.text.specs.Output.{Output, at, refused, outputOf, puts, whole}
 use Rattle.text.specs.declared.Position.{Position}
 use Rattle.text.specs.declared.Position.the-variants.{At, No}
 use Rattle.text.proofs.Whole.{whole-written}
+use Rattle.lookup.specs.Counted.{Counted}
+use Rattle.volume.specs.Open.{openTold, volumeOfImage}
 use Rattle.volume.specs.declared.Volume.{Volume}
+use Rattle.volume.specs.declared.VolumeOpened.{VolumeOpened}
+use Rattle.volume.specs.declared.VolumeOpening.{VolumeOpening}
 use Rattle.label.specs.Label.{labelOf}
 use Rattle.paths.specs.Names.{ruleOf}
 use Rattle.paths.specs.declared.names.NameRule.{NameRule}
 use Rattle.files.proofs.Verdicts.{le-or-gt}
 use Rattle.lines.specs.Lines.{volumeLine, close}
+use Rattle.calls.specs.Filled.{Filled, filledAt}
 use Rattle.demand.specs.Trace.{End, done, stop, Trace, says, _then_, textOr, within}
 use Rattle.demand.specs.Listing.{nodeForm, trace, listing}
-use Rattle.demand.specs.Demand.{viewOf, labelShown}
+use Rattle.demand.specs.Demand.{viewOf, viewAt, labelShown, listingOf}
 use Rattle.forms.specs.Run.{ending, run}
 use Rattle.forms.proofs.Running.{run-says, run-then}
-use Rattle.listing.specs.Listed.{Listed, listedOf, listedAt}
+use Rattle.listing.specs.Listed.{listedOf}
 
 pub listing-whole : (room : ℕ) (b : List ℕ) (v : Volume) (o p x z : Output) (k : NameRule) (l : List ℕ) → k ≡ ruleOf v → l ≡ labelOf b v
     → p ≡ puts room (volumeLine (k .caseless) (k .normless) (lossy l) []) o → x ≡ run room (nodeForm (viewOf b v) 65 2) p → z ≡ puts room (41 ∷ 10 ∷ []) x → z ≡ run room (trace (viewOf b v)) o
@@ -42,12 +47,12 @@ module _ (t : Trace) (out : List ℕ) where
   run-whole = ap (ending (t .ended)) (whole-written (t .text) out)
 
   module _ (p : Position) (l : List ℕ) (h : outputOf p l ≡ run (length out) t (at out 0)) where
-    pub listed-got : (n : ℕ) → p ≡ At n → listedAt (At n) l ≡ listedOf (within (length out) t) out
+    pub listed-got : (n : ℕ) → p ≡ At n → filledAt (At n) l ≡ listedOf (within (length out) t) out
     unfolding within whole
     listed-got n q = of (le-or-gt (length (t .text)) (length out)) (t .ended) (ap (λ (x : Position). outputOf x l) (sym q) ∙ h ∙ run-whole)
       where
         of : (length (t .text) ≤ length out) ⊎ (length out < length (t .text)) → (e : End) → at l n ≡ ending e (whole (t .text) out)
-            → listedAt (At n) l ≡ listedOf (within (length out) (record { text = t .text; ended = e })) out
+            → filledAt (At n) l ≡ listedOf (within (length out) (record { text = t .text; ended = e })) out
         of (inl k) done w =
             let a : at l n ≡ at (t .text ++ drop (length (t .text)) out) (length (t .text)) = w ∙ sym (at-most _ _ _ _ _ k refl) in
             let m : n ≡ length (t .text) = cc in
@@ -63,7 +68,7 @@ module _ (t : Trace) (out : List ℕ) where
             let a : at l n ≡ refused BufferTooShort = w ∙ ap (ending (stop e)) (sym (above _ _ _ _ _ k refl)) in
             absurd (let z : _≡_ {A = ℕ} 0 1 = cc in omega arith)
 
-    pub listed-no : (w : Refusal) (c : List ℕ) → p ≡ No w → length l ≡ length out → c ≡ replicate (length l) 0 → listedAt (No w) c ≡ listedOf (within (length out) t) out
+    pub listed-no : (w : Refusal) (c : List ℕ) → p ≡ No w → length l ≡ length out → c ≡ replicate (length l) 0 → filledAt (No w) c ≡ listedOf (within (length out) t) out
     unfolding within whole
     listed-no w c q s z = of (le-or-gt (length (t .text)) (length out)) (t .ended) (ap (λ (x : Position). outputOf x l) (sym q) ∙ h ∙ run-whole)
       where
@@ -71,7 +76,7 @@ module _ (t : Trace) (out : List ℕ) where
         zeros = z ∙ ap (λ (n : ℕ). replicate n 0) s
 
         of : (length (t .text) ≤ length out) ⊎ (length out < length (t .text)) → (e : End) → refused w ≡ ending e (whole (t .text) out)
-            → listedAt (No w) c ≡ listedOf (within (length out) (record { text = t .text; ended = e })) out
+            → filledAt (No w) c ≡ listedOf (within (length out) (record { text = t .text; ended = e })) out
         of (inl k) done y =
             let a : refused w ≡ at (t .text ++ drop (length (t .text)) out) (length (t .text)) = y ∙ sym (at-most _ _ _ _ _ k refl) in
             absurd (let g : _≡_ {A = ℕ} 0 1 = cc in omega arith)
@@ -88,4 +93,19 @@ module _ (t : Trace) (out : List ℕ) where
             let m : w ≡ BufferTooShort = cc in
             rw (zeros, m) (ap (λ (x : Answer (List ℕ)). listedOf x out) (above _ _ _ _ _ k refl))
 
-pub ruleset all = (needs, listing-whole, listed-got, listed-no)
+module _ (image : List ℕ) (index n : ℕ) (out : List ℕ) (r : VolumeOpened) (p : openTold r ≡ volumeOfImage image index) where
+  -- the listing, by what opening answered
+  abbrev by : Answer Volume → Answer (List ℕ)
+  by a = a >>= (λ v. got (viewOf image v)) >>= λ w. listing w n
+
+  opened : (x : VolumeOpening) → r .volume ≡ x → listedOf (by (openTold (record { volume = x; nodes = r .nodes }) .answer)) out ≡ listedOf (listingOf image index n) out
+  unfolding listingOf viewAt
+  opened x q = ap (λ (y : VolumeOpening). listedOf (by (openTold (record { volume = y; nodes = r .nodes }) .answer)) out) (sym q) ∙ ap (λ (c : Counted Volume). listedOf (by (c .answer)) out) p
+
+  pub list-opened : (v : Volume) (z : Filled) → r .volume ≡ VolumeOpening.Got v → z ≡ listedOf (listing (viewOf image v) n) out → z ≡ listedOf (listingOf image index n) out
+  list-opened v z q h = h ∙ opened (VolumeOpening.Got v) q
+
+  pub list-refused : (w : Refusal) (c : List ℕ) → r .volume ≡ VolumeOpening.No w → c ≡ replicate (length out) 0 → filledAt (No w) c ≡ listedOf (listingOf image index n) out
+  list-refused w c q h = ap (λ (x : List ℕ). filledAt (No w) x) h ∙ opened (VolumeOpening.No w) q
+
+pub ruleset all = (needs, listing-whole, listed-got, listed-no, list-opened, list-refused)

@@ -2,4 +2,4 @@
 mod list;
 mod writers;
 
-pub use list::list_volume;
+pub use list::list_text;

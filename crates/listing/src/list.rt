@@ -7,13 +7,16 @@ use text::Position;
 use text::clear;
 use text::put_all;
 use volume::Volume;
+use volume::VolumeOpening;
+use volume::open_at;
 ghost use mathlib.Core.Path.{_≡_};
 ghost use lib.ListN.{length};
 ghost use Rattle.text.specs.Output.{outputOf, at};
+ghost use Rattle.calls.specs.Filled.{filledAt};
 ghost use Rattle.demand.specs.Listing.{trace, listing};
-ghost use Rattle.demand.specs.Demand.{viewOf};
+ghost use Rattle.demand.specs.Demand.{viewOf, listingOf};
 ghost use Rattle.forms.specs.Run.{run};
-ghost use Rattle.listing.specs.Listed.{listedAt, listedOf};
+ghost use Rattle.listing.specs.Listed.{listedOf};
 
 fn put_listing(out: &mut [u8], image: &[u8], v: Volume) -> Position
     ensures { λ r. ⌜ outputOf r (now (out .exit)) ≡ run (length (now (out .entry))) (trace (viewOf (now (image .entry)) v)) (at (now (out .entry)) 0) ⌝ }
@@ -34,13 +37,28 @@ fn put_listing(out: &mut [u8], image: &[u8], v: Volume) -> Position
 }
 
 // A refused listing leaves its buffer all zeros.
-pub fn list_volume(image: &[u8], v: Volume, out: &mut [u8]) -> Position
-    ensures { λ r. ⌜ listedAt r (now (out .exit)) ≡ listedOf (listing (viewOf (now (image .entry)) v) (length (now (out .entry)))) (now (out .entry)) ⌝ }
+fn list_volume(image: &[u8], v: Volume, out: &mut [u8]) -> Position
+    ensures { λ r. ⌜ filledAt r (now (out .exit)) ≡ listedOf (listing (viewOf (now (image .entry)) v) (length (now (out .entry)))) (now (out .entry)) ⌝ }
 {
     let p = put_listing(out, image, v);
     match p {
         Position::At(n) => Position::At(n),
         Position::No(w) => {
+            clear(out);
+            Position::No(w)
+        }
+    }
+}
+
+// A refused listing leaves its buffer all zeros, also where nothing was opened.
+pub fn list_text(image: &[u8], index: u64, out: &mut [u8]) -> Position
+    ensures { λ r. ⌜ filledAt r (now (out .exit)) ≡ listedOf (listingOf (now (image .entry)) index (length (now (out .entry)))) (now (out .entry)) ⌝ }
+{
+    let opened = open_at(image, index);
+    let volume = opened.volume;
+    match volume {
+        VolumeOpening::Got(v) => list_volume(image, v, out),
+        VolumeOpening::No(w) => {
             clear(out);
             Position::No(w)
         }

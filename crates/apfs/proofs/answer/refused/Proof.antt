@@ -1,5 +1,5 @@
 use borrow.Author.Needs.{needs}
-use Rattle.apfs.proofs.Lines.{minus-told}
+use Rattle.apfs.proofs.Results.{minus-told}
 use Rattle.apfs.proofs.answer.refused.Statement.{statement}
 use Rattle.apfs.proofs.answer.refused.Tie as tie
 

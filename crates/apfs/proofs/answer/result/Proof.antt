@@ -1,5 +1,5 @@
 use borrow.Author.Needs.{needs}
-use Rattle.apfs.proofs.Calls.{results}
+use Rattle.apfs.proofs.Results.{results}
 use Rattle.apfs.proofs.answer.result.Statement.{statement}
 use Rattle.apfs.proofs.answer.result.Tie as tie
 

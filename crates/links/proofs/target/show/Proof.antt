@@ -1,5 +1,5 @@
 use borrow.Author.Needs.{needs}
-use Rattle.links.proofs.Targets.{filled-short, filled-written}
+use Rattle.calls.proofs.Filling.{filled-short, filled-written, filled-told}
 use Rattle.links.proofs.target.show.Statement.{statement}
 use Rattle.links.proofs.target.show.Tie as tie
 
@@ -18,5 +18,6 @@ show-spec =
     (λ c. filled-short _ _ (c .before .before .before .before .before .put-text .last .0) _ (c .before .before .before .before .before .put-text .kept .0) (c .before .before .before .before .before .put-text .ensures) _ (c .before .e .given .1))
     (λ c. search needs)
     (λ c.
-    filled-written _ _ (c .before .before .before .before .before .before .before .before .before .put-text .last .0) _ (c .before .before .before .before .before .before .before .before .before .put-text .kept .0) (c .before .before .before .before .before .before .before .before .before .put-text .ensures) _ (c .before .before .before .put-text2 .result) (c .before .before .before .put-text2 .last .0) (c .number-at .result)
-    (c .before .before .before .before .before .enum-told .given .1) (c .before .before .before .put-text2 .ensures) (c .number-at .ensures)))
+    filled-told (c .before .before .before .put-text2 .result) _ (c .number-at .result) _ (c .number-at .ensures)
+    (filled-written _ _ (c .before .before .before .before .before .before .before .before .before .put-text .last .0) _ (c .before .before .before .before .before .before .before .before .before .put-text .kept .0) (c .before .before .before .before .before .before .before .before .before .put-text .ensures) _ (c .before .before .before .put-text2 .result) (c .before .before .before .put-text2 .last .0)
+    (c .before .before .before .before .before .enum-told .given .1) (c .before .before .before .put-text2 .ensures))))

@@ -1,0 +1,13 @@
+use borrow.Author.Needs.{needs}
+use Rattle.apfs.proofs.Results.{ends}
+use Rattle.apfs.proofs.apfs_entry.Statement.{statement}
+use Rattle.apfs.proofs.apfs_entry.Tie as tie
+
+pub apfs-entry-spec : {M : Type 1} → statement M
+apfs-entry-spec =
+    tie.close
+    (tie.spec
+    (λ c κs. search needs)
+    (λ c κs. search ends)
+    (λ c. search needs)
+    (λ c. search ends))

@@ -1,0 +1,73 @@
+-- How the call goes on from an attribute, by the form of its contents.
+use Prim.Native.Nat.{ℕ}
+use mathlib.Core.Path.{_≡_, sym, ap, _∙_}
+use mathlib.Core.List.{List, []}
+use mathlib.Core.Option.{Option, none, some}
+use Rattle.error.specs.Answer.{got}
+use Rattle.error.specs.declared.Refusal.{Refusal}
+use Rattle.bytes.specs.declared.Span.{Span}
+use Rattle.lookup.specs.Counted.{Counted, after, onto}
+use Rattle.text.specs.declared.Position.the-variants.{No}
+use Rattle.volume.specs.declared.Volume.{Volume}
+use Rattle.records.specs.Attribute.{attributeBytes}
+use Rattle.records.specs.declared.attribute.Attribute.{Attribute}
+use Rattle.records.specs.declared.attribute.AttributeData.{AttributeData}
+use Rattle.records.specs.declared.attribute.AttributeData.the-variants.{Embedded, Stream}
+use Rattle.records.specs.declared.attribute.StreamData.{StreamData}
+use Rattle.lists.specs.Told.{attributeFound}
+use Rattle.lists.specs.declared.attributes.AttributeFound.{AttributeFound}
+use Rattle.lists.specs.declared.attributes.AttributeAt.{AttributeAt}
+use Rattle.files.specs.Ruling.{ruled}
+use Rattle.files.specs.declared.verdict.Ruling.{Ruling}
+use Rattle.streams.specs.Streams.{settledTold, settledOf, streamOf, streamBytes}
+use Rattle.streams.specs.declared.settle.Settled.{Settled}
+use Rattle.streams.proofs.Contents.{stream-settled}
+use Rattle.links.specs.Link.{contentsBy}
+use Rattle.lines.specs.Shown.{attributeShown}
+use Rattle.lines.specs.Lines.{attributeLine}
+use Rattle.calls.specs.Filled.{Filled, filled, filledBy, filledAt}
+use Rattle.calls.proofs.Steps as call
+use Rattle.attribute_lines.specs.Attributes.{streamedOf, attributeOf}
+
+module _ (f : Option Attribute → ℕ → Counted (List ℕ)) (b : List ℕ) (r : AttributeFound) (c : Counted (Option Attribute)) (p : attributeFound r ≡ c) where
+  pub attribute-got : (x : Attribute) (z : Filled) → r .attribute ≡ AttributeAt.At x → z ≡ filledBy (f (some x) (r .nodes) .answer) b → z ≡ filledBy (onto c f .answer) b
+  attribute-got x z q h = rw (← p, q) h
+
+  pub attribute-past : (z : Filled) → r .attribute ≡ AttributeAt.Nothing → z ≡ filledBy (f none (r .nodes) .answer) b → z ≡ filledBy (onto c f .answer) b
+  attribute-past z q h = rw (← p, q) h
+
+  pub attribute-refused : (w : Refusal) → r .attribute ≡ AttributeAt.No w → filledAt (No w) b ≡ filledBy (onto c f .answer) b
+  attribute-refused w q = rw (← p, q)
+
+module _ (image : List ℕ) (v : Volume) (a : Attribute) (b : List ℕ) (s : ℕ) where
+  -- what the call leaves where c are the contents
+  abbrev left : Counted (List ℕ) → Filled
+  left c = filledBy ((onto c λ x t. after t (got (attributeLine (attributeShown (v .reader) image a x) []))) .answer) b
+
+  pub embedded-got : (p : Span) (z : Filled) → a .contents ≡ Embedded p → z ≡ filled (attributeLine (attributeShown (v .reader) image a (attributeBytes (v .reader) image (a .place) p)) []) b
+      → z ≡ filledBy (attributeOf image v a s .answer) b
+  unfolding attributeOf contentsBy
+  embedded-got p z q h = h ∙ ap (λ (x : AttributeData). left (contentsBy image v (a .place) x s)) (sym q)
+
+  pub streamed-got : (d : StreamData) (z : Filled) → a .contents ≡ Stream d → z ≡ filledBy (streamedOf image v a d s .answer) b → z ≡ filledBy (attributeOf image v a s .answer) b
+  unfolding attributeOf contentsBy streamedOf
+  streamed-got d z q h = h ∙ ap (λ (x : AttributeData). left (contentsBy image v (a .place) x s)) (sym q)
+
+  module _ (d : StreamData) (r : Settled) (p : settledTold r ≡ settledOf image v (d .object) (d .size) s) where
+    -- the contents, by the ruling
+    abbrev by : Ruling → Counted (List ℕ)
+    by x = onto (after (r .nodes) (ruled x)) λ u t. after t (got (streamBytes image v (d .object) (d .size) s))
+
+    contents : by (r .ruling) ≡ streamOf image v (d .object) (d .size) s
+    contents = ap (λ (c : Counted (Unit {0})). onto c λ u t. after t (got (streamBytes image v (d .object) (d .size) s))) p ∙ sym (stream-settled image v (d .object) (d .size) s)
+
+    pub settled-got : (z : Filled) → r .ruling ≡ Ruling.Fine → z ≡ filled (attributeLine (attributeShown (v .reader) image a (streamBytes image v (d .object) (d .size) s)) []) b
+        → z ≡ filledBy (streamedOf image v a d s .answer) b
+    unfolding streamedOf
+    settled-got z q h = h ∙ ap (λ (x : Ruling). left (by x)) (sym q) ∙ ap left contents
+
+    pub settled-refused : (w : Refusal) → r .ruling ≡ Ruling.No w → filledAt (No w) b ≡ filledBy (streamedOf image v a d s .answer) b
+    unfolding streamedOf
+    settled-refused w q = ap (λ (x : Ruling). left (by x)) (sym q) ∙ ap left contents
+
+pub ruleset onward = (call.onward, attribute-got, attribute-past, attribute-refused, embedded-got, streamed-got, settled-got, settled-refused)

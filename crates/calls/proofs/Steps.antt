@@ -1,0 +1,46 @@
+-- How a call goes on from its steps: what it leaves is `filledBy` of the answer so far.
+use Prim.Native.Nat.{ℕ}
+use mathlib.Core.Path.{_≡_, sym, ap, _∙_}
+use mathlib.Core.List.{List}
+use borrow.Author.Needs.{needs}
+use Rattle.error.specs.declared.Refusal.{Refusal}
+use Rattle.bytes.specs.Number.{told}
+use Rattle.bytes.specs.declared.Number.{Number}
+use Rattle.lookup.specs.Counted.{Counted, onto}
+use Rattle.text.specs.declared.Position.the-variants.{At, No}
+use Rattle.volume.specs.Open.{openTold}
+use Rattle.volume.specs.declared.Volume.{Volume}
+use Rattle.volume.specs.declared.VolumeOpened.{VolumeOpened}
+use Rattle.volume.specs.declared.VolumeOpening.{VolumeOpening}
+use Rattle.records.specs.declared.inode.Inode.{Inode}
+use Rattle.records.specs.declared.inode.InodeRead.{InodeRead}
+use Rattle.lists.specs.Told.{inodeFound}
+use Rattle.lists.specs.declared.inodes.InodeFound.{InodeFound}
+use Rattle.calls.specs.Filled.{Filled, filledBy, filledAt, Answered, answered}
+use Rattle.calls.proofs.Filling.{filled-nothing}
+
+module _ (f : Volume → ℕ → Counted (List ℕ)) (b : List ℕ) (r : VolumeOpened) (c : Counted Volume) (p : openTold r ≡ c) where
+  pub volume-got : (v : Volume) (z : Filled) → r .volume ≡ VolumeOpening.Got v → z ≡ filledBy (f v (r .nodes) .answer) b → z ≡ filledBy (onto c f .answer) b
+  volume-got v z q h = rw (← p, q) h
+
+  pub volume-refused : (w : Refusal) → r .volume ≡ VolumeOpening.No w → filledAt (No w) b ≡ filledBy (onto c f .answer) b
+  volume-refused w q = rw (← p, q)
+
+module _ (f : Inode → ℕ → Counted (List ℕ)) (b : List ℕ) (r : InodeFound) (c : Counted Inode) (p : inodeFound r ≡ c) where
+  pub inode-got : (i : Inode) (z : Filled) → r .inode ≡ InodeRead.Got i → z ≡ filledBy (f i (r .nodes) .answer) b → z ≡ filledBy (onto c f .answer) b
+  inode-got i z q h = rw (← p, q) h
+
+  pub inode-refused : (w : Refusal) → r .inode ≡ InodeRead.No w → filledAt (No w) b ≡ filledBy (onto c f .answer) b
+  inode-refused w q = rw (← p, q)
+
+-- the count of an answer, as a position
+module _ (c : Counted (List ℕ)) (out last : List ℕ) (k : Number) (n : ℕ) (p : record { nodes = n; result = record { answer = told k; buffer = last } } ≡ answered c out) where
+  pub count-got : (m : ℕ) → k ≡ Number.Got m → filledAt (At m) last ≡ filledBy (c .answer) out
+  count-got m q = ap (λ (x : Number). record { answer = told x; buffer = last }) (sym q) ∙ ap (λ (x : Answered). x .result) p
+
+  pub count-no : (w : Refusal) → k ≡ Number.No w → filledAt (No w) last ≡ filledBy (c .answer) out
+  count-no w q = ap (λ (x : Number). record { answer = told x; buffer = last }) (sym q) ∙ ap (λ (x : Answered). x .result) p
+
+pub ruleset counts = (needs, count-got, count-no)
+
+pub ruleset onward = (needs, filled-nothing, volume-got, volume-refused, inode-got, inode-refused)

@@ -1,0 +1,43 @@
+-- What a call leaves that answers into a buffer which the caller lends. Document 01, "Answers other than success": "any other refusal leaves
+-- buffers unchanged. Success writes nothing past its answer"; "6 (added) buffer shorter than the answer".
+use Prim.Native.Nat.{ℕ}
+use mathlib.Core.List.{List, _++_}
+use lib.ListN.{length, drop}
+use Rattle.error.specs.Answer.{Answer, got, no, ifLe}
+use Rattle.error.specs.declared.Refusal.the-variants.{BufferTooShort}
+use Rattle.lookup.specs.Counted.{Counted}
+use Rattle.text.specs.declared.Position.{Position}
+use Rattle.text.specs.declared.Position.the-variants.{At, No}
+
+-- how many bytes were written, or the refusal; and the buffer
+pub record Filled : Type 0 where
+  pub answer : Answer ℕ
+  pub buffer : List ℕ
+
+-- a text that is answered into a buffer
+unfoldable pub filled : List ℕ → List ℕ → Filled
+filled t b =
+    ifLe (length t) (length b)
+    (record { answer = got (length t); buffer = t ++ drop (length t) b })
+    (record { answer = no BufferTooShort; buffer = b })
+
+-- a text or a refusal
+abbrev pub filledBy : Answer (List ℕ) → List ℕ → Filled
+filledBy (got t) b = filled t b
+filledBy (no e) b = record { answer = no e; buffer = b }
+
+-- of a position that a writer left
+abbrev pub positioned : Position → Answer ℕ
+positioned (At n) = got n
+positioned (No e) = no e
+
+abbrev pub filledAt : Position → List ℕ → Filled
+filledAt p b = record { answer = positioned p; buffer = b }
+
+-- the same with the nodes gone through
+pub record Answered : Type 0 where
+  pub nodes : ℕ
+  pub result : Filled
+
+abbrev pub answered : Counted (List ℕ) → List ℕ → Answered
+answered c b = record { nodes = c .nodes; result = filledBy (c .answer) b }

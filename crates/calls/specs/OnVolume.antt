@@ -1,0 +1,11 @@
+-- A call on a volume opens it first: document 01, "`Volume<'c>` holding `&Container`: both by value, the image passed beside them".
+use Prim.Native.Nat.{ℕ}
+use mathlib.Core.List.{List}
+use Rattle.error.specs.Answer.{Answer}
+use Rattle.lookup.specs.Counted.{Counted, onto}
+use Rattle.volume.specs.Open.{volumeOfImage}
+use Rattle.volume.specs.declared.Volume.{Volume}
+
+-- the volume at an index of an image, and what f makes of it; node counts are not told
+abbrev pub onVolume : (Volume → ℕ → Counted (List ℕ)) → List ℕ → ℕ → Answer (List ℕ)
+onVolume f image index = onto (volumeOfImage image index) f .answer

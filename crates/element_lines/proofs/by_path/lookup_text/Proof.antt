@@ -1,0 +1,18 @@
+use borrow.Author.Needs.{needs}
+use Rattle.element_lines.specs.Elements.{lookupText}
+use Rattle.element_lines.proofs.Steps.{onward}
+use Rattle.element_lines.proofs.by_path.lookup_text.Statement.{statement}
+use Rattle.element_lines.proofs.by_path.lookup_text.Tie as tie
+
+pub lookup-text-spec : {M : Type 1} → statement M
+unfolding lookupText
+lookup-text-spec =
+    tie.close
+    (tie.spec
+    (λ c κs. search needs)
+    (λ c. search needs)
+    (λ c κs. search needs)
+    (λ c. search needs)
+    (λ c. search needs)
+    (λ c. search onward)
+    (λ c. search onward))

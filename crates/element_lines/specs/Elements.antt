@@ -1,0 +1,52 @@
+-- The line of an inode by its path, and of an entry and an extent by their place, in the listing's notation: document 01, "The listing (added)".
+-- Of a list, "past its end is "none"": nothing is written.
+use Prim.Native.Nat.{ℕ, _/_, _%_}
+use mathlib.Core.List.{List, []}
+use mathlib.Core.Option.{Option, none, some}
+use Rattle.error.specs.Answer.{Answer, got, no, ifEq}
+use Rattle.error.specs.declared.Refusal.the-variants.{Unsupported}
+use Rattle.lookup.specs.Counted.{Counted, after, onto}
+use Rattle.volume.specs.declared.Volume.{Volume}
+use Rattle.records.specs.declared.directory.Entry.{Entry}
+use Rattle.records.specs.declared.extent.Extent.{Extent}
+use Rattle.records.specs.declared.inode.Inode.{Inode}
+use Rattle.lists.specs.Lists.{placed, entriesOf, extentsOf, inodeOf}
+use Rattle.paths.specs.Lookup.{lookupPath}
+use Rattle.lines.specs.Shown.{inodeShown, entryShown}
+use Rattle.lines.specs.Lines.{nodeLine, entryLine, extentLine}
+use Rattle.calls.specs.OnVolume.{onVolume}
+
+abbrev pub entryShow : List ℕ → Volume → Option Entry → List ℕ
+entryShow image v none = []
+entryShow image v (some e) = entryLine (entryShown (v .reader) image e) []
+
+unfoldable pub entryOn : List ℕ → Volume → ℕ → ℕ → ℕ → Counted (List ℕ)
+entryOn image v id place s = onto (placed place (entriesOf image v id s)) λ o t. after t (got (entryShow image v o))
+
+-- what `apfs_entry` answers
+unfoldable pub entryText : List ℕ → ℕ → ℕ → ℕ → Answer (List ℕ)
+entryText image index id place = onVolume (λ v s. entryOn image v id place s) image index
+
+unfoldable pub lookupOn : List ℕ → Volume → List ℕ → ℕ → Counted (List ℕ)
+lookupOn image v path s = onto (lookupPath image v path s) λ i t. after t (got (nodeLine (inodeShown (v .reader) image i) []))
+
+-- what `apfs_lookup` answers
+unfoldable pub lookupText : List ℕ → ℕ → List ℕ → Answer (List ℕ)
+lookupText image index path = onVolume (λ v s. lookupOn image v path s) image index
+
+abbrev pub extentShow : Option Extent → List ℕ
+extentShow none = []
+extentShow (some e) = extentLine e []
+
+-- of an inode that was read; compressed is 3 (fs.rs, `file_extents`; UF_COMPRESSED is 0x20)
+unfoldable pub extentOf : List ℕ → Volume → Inode → ℕ → ℕ → Counted (List ℕ)
+extentOf image v i place s =
+    ifEq (i .owner .«bsd_flags» / 32 % 2) 1 (after s (no Unsupported))
+    (onto (placed place (extentsOf image v (i .ids .«private_id») s)) λ o t. after t (got (extentShow o)))
+
+unfoldable pub extentOn : List ℕ → Volume → ℕ → ℕ → ℕ → Counted (List ℕ)
+extentOn image v id place s = onto (inodeOf image v id s) λ i t. extentOf image v i place t
+
+-- what `apfs_extent` answers
+unfoldable pub extentText : List ℕ → ℕ → ℕ → ℕ → Answer (List ℕ)
+extentText image index id place = onVolume (λ v s. extentOn image v id place s) image index

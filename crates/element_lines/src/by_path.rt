@@ -1,0 +1,50 @@
+// The line of the inode that a path leads to.
+use lines::put_node_line;
+use obj::Reader;
+use paths::lookup_path;
+use records::Inode;
+use records::InodeRead;
+use text::Position;
+use volume::Volume;
+use volume::VolumeOpening;
+use volume::open_at;
+ghost use mathlib.Core.Path.{_≡_};
+ghost use mathlib.Core.List.{[]};
+ghost use Rattle.lines.specs.Shown.{inodeShown};
+ghost use Rattle.lines.specs.Lines.{nodeLine};
+ghost use Rattle.calls.specs.Filled.{filledAt, filled, filledBy};
+ghost use Rattle.element_lines.specs.Elements.{lookupOn, lookupText};
+
+// Measured first: a buffer that is too short is left as it was.
+fn show_inode(image: &[u8], reader: Reader, i: Inode, out: &mut [u8]) -> Position
+    ensures { λ r. ⌜ filledAt r (now (out .exit)) ≡ filled (nodeLine (inodeShown reader (now (image .entry)) i) []) (now (out .entry)) ⌝ }
+{
+    let room = out.len();
+    match put_node_line(&mut out[..0], room, Position::At(0), image, reader, i) {
+        Position::No(w) => Position::No(w),
+        Position::At(_) => put_node_line(out, room, Position::At(0), image, reader, i),
+    }
+}
+
+fn lookup_on(image: &[u8], v: Volume, path: &[u8], nodes: u64, out: &mut [u8]) -> Position
+    ensures { λ r. ⌜ filledAt r (now (out .exit)) ≡ filledBy (lookupOn (now (image .entry)) v (now (path .entry)) nodes .answer) (now (out .entry)) ⌝ }
+{
+    let found = lookup_path(image, v, path, nodes);
+    let reader = v.reader;
+    let inode = found.inode;
+    match inode {
+        InodeRead::Got(i) => show_inode(image, reader, i, out),
+        InodeRead::No(w) => Position::No(w),
+    }
+}
+
+pub fn lookup_text(image: &[u8], index: u64, path: &[u8], out: &mut [u8]) -> Position
+    ensures { λ r. ⌜ filledAt r (now (out .exit)) ≡ filledBy (lookupText (now (image .entry)) index (now (path .entry))) (now (out .entry)) ⌝ }
+{
+    let opened = open_at(image, index);
+    let volume = opened.volume;
+    match volume {
+        VolumeOpening::Got(v) => lookup_on(image, v, path, opened.nodes, out),
+        VolumeOpening::No(w) => Position::No(w),
+    }
+}

@@ -1,0 +1,68 @@
+// The line of a file's extent, by place.
+use error::Refusal;
+use lines::put_extent_line;
+use lists::ExtentAt;
+use lists::extent_at;
+use lists::inode;
+use records::Extent;
+use records::Inode;
+use records::InodeRead;
+use text::Position;
+use volume::Volume;
+use volume::VolumeOpening;
+use volume::open_at;
+ghost use mathlib.Core.Path.{_≡_};
+ghost use mathlib.Core.List.{[]};
+ghost use Rattle.lines.specs.Lines.{extentLine};
+ghost use Rattle.calls.specs.Filled.{filledAt, filled, filledBy};
+ghost use Rattle.element_lines.specs.Elements.{extentOf, extentOn, extentText};
+
+// Measured first: a buffer that is too short is left as it was.
+fn show_extent(e: Extent, out: &mut [u8]) -> Position
+    ensures { λ r. ⌜ filledAt r (now (out .exit)) ≡ filled (extentLine e []) (now (out .entry)) ⌝ }
+{
+    let room = out.len();
+    match put_extent_line(&mut out[..0], room, Position::At(0), e) {
+        Position::No(w) => Position::No(w),
+        Position::At(_) => put_extent_line(out, room, Position::At(0), e),
+    }
+}
+
+fn extent_of(image: &[u8], v: Volume, i: Inode, place: u64, nodes: u64, out: &mut [u8]) -> Position
+    ensures { λ r. ⌜ filledAt r (now (out .exit)) ≡ filledBy (extentOf (now (image .entry)) v i place nodes .answer) (now (out .entry)) ⌝ }
+{
+    let owner = i.owner;
+    let ids = i.ids;
+    if owner.bsd_flags / 32 % 2 == 1 {
+        return Position::No(Refusal::Unsupported);
+    }
+    let found = extent_at(image, v, ids.private_id, place, nodes);
+    let extent = found.extent;
+    match extent {
+        ExtentAt::Nothing => Position::At(0),
+        ExtentAt::At(e) => show_extent(e, out),
+        ExtentAt::No(w) => Position::No(w),
+    }
+}
+
+fn extent_on(image: &[u8], v: Volume, id: u64, place: u64, nodes: u64, out: &mut [u8]) -> Position
+    ensures { λ r. ⌜ filledAt r (now (out .exit)) ≡ filledBy (extentOn (now (image .entry)) v id place nodes .answer) (now (out .entry)) ⌝ }
+{
+    let found = inode(image, v, id, nodes);
+    let read = found.inode;
+    match read {
+        InodeRead::Got(i) => extent_of(image, v, i, place, found.nodes, out),
+        InodeRead::No(w) => Position::No(w),
+    }
+}
+
+pub fn extent_text(image: &[u8], index: u64, id: u64, place: u64, out: &mut [u8]) -> Position
+    ensures { λ r. ⌜ filledAt r (now (out .exit)) ≡ filledBy (extentText (now (image .entry)) index id place) (now (out .entry)) ⌝ }
+{
+    let opened = open_at(image, index);
+    let volume = opened.volume;
+    match volume {
+        VolumeOpening::Got(v) => extent_on(image, v, id, place, opened.nodes, out),
+        VolumeOpening::No(w) => Position::No(w),
+    }
+}
