@@ -1,24 +1,25 @@
--- Document 01, "Marked lines of the table", as far as opening a container goes: one table, checked whole by computation.
+-- Document 01, "Marked lines of the table": "Proved together, as a table that is checked whole". One statement, `MarkedLines`; it is proved in
+-- proofs/Marked.antt.
 use Prim.Native.Nat.{ℕ}
-use mathlib.Core.Path.{_≡_, refl}
-use mathlib.Core.Bool.{Bool, true, false}
+use mathlib.Core.Path.{_≡_}
+use mathlib.Core.Bool.{true, false}
 use mathlib.Core.List.{List, [], _∷_, _++_}
-use lib.Count.{ones}
 use lib.ListN.{replicate}
-use Rattle.error.specs.Answer.{ifLe, ifEq}
-use Rattle.bytes.specs.Number.{little}
-use Rattle.checksum.specs.Fletcher.{wordsAt, wordsOf, sum, running, s1, s2, checksum, valid}
-use Rattle.name_hash.specs.Hash.{crc, foldAll, utf32, nameHash, nameLenAndHash}
+use Rattle.checksum.specs.Fletcher.{checksum, valid}
+use Rattle.name_hash.specs.Hash.{nameHash, nameLenAndHash}
 use Rattle.node.specs.Node.{laidOut}
 use Rattle.geometry.specs.BlockZero.{sizeOk}
+use Rattle.volume.specs.declared.Volume.{Volume}
+use Rattle.lists.specs.Lists.{inodeOf}
+use Rattle.paths.specs.Lookup.{lookupPath}
 use Rattle.leaves.specs.Leaves.{valueOr, refusalIn, oneIf}
 
 -- a leaf's fields of a level
 abbrev levelled : ℕ → ℕ
 levelled level = refusalIn (laidOut (record { flags = 2; level = level; nkeys = 0; «toc_off» = 0; «toc_len» = 0 }) 1 4096)
 
 -- what the definitions give, a line of the paper a line
-pub given : List ℕ
+unfoldable pub given : List ℕ
 given =
     checksum (replicate 32 0) ∷ checksum (replicate 8 0 ++ 1 ∷ replicate 23 0)
     ∷ oneIf (valid (replicate 8 0xFF ++ replicate 20 0)) ∷ oneIf (valid (replicate 8 0xFF ++ replicate 26 0))
@@ -28,14 +29,19 @@ given =
     ∷ levelled 32 ∷ levelled 33
     ∷ []
 
-pub marked :
-    given
-    ≡ 0xFFFFFFFFFFFFFFFF ∷ 0x00000006FFFFFFF8
+-- what the paper says
+unfoldable pub said : List ℕ
+said =
+    0xFFFFFFFFFFFFFFFF ∷ 0x00000006FFFFFFF8
     ∷ 0 ∷ 0
     ∷ 0x3FFFFF ∷ 0x3FFFFF ∷ 0xFFFFFC01 ∷ 0xFFFFFC01
     ∷ 0 ∷ 0
     ∷ 2 ∷ 2 ∷ 2
     ∷ 0 ∷ 2
     ∷ []
-unfolding ifLe ifEq little wordsAt wordsOf sum running s1 s2 checksum valid crc foldAll utf32 nameHash nameLenAndHash laidOut sizeOk ones given
-marked = refl
+
+-- the line on paths is about lookup in any volume of any image
+pub record MarkedLines : Type 0 where
+  pub numbers : given ≡ said
+  pub empty-is-root : (image : List ℕ) (v : Volume) (nodes : ℕ) → lookupPath image v [] nodes ≡ inodeOf image v 2 nodes
+  pub slashes-are-root : (image : List ℕ) (v : Volume) (nodes : ℕ) → lookupPath image v (47 ∷ 47 ∷ []) nodes ≡ inodeOf image v 2 nodes

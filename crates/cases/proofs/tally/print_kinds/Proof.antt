@@ -1,0 +1,30 @@
+use Prim.Native.Nat.{_-_, _≤_}
+use native.Mathlib.Omega.{arith}
+use borrow.Author.Needs.{needs}
+use Rattle.cases.proofs.tally.print_kinds.Statement.{statement}
+use Rattle.cases.proofs.tally.print_kinds.Tie as tie
+
+abbrev Inv-loop : tie.InvT-loop
+Inv-loop kinds k₀ t3 k = k ≤ 88
+
+abbrev μ-loop : tie.MeasureT-loop
+μ-loop kinds k₀ t3 k = 88 - k
+
+pub print-kinds-spec : {M : Type 1} → statement M
+print-kinds-spec =
+    tie.close
+    (tie.spec
+    Inv-loop
+    μ-loop
+    (λ c. search needs)
+    (λ c. search needs)
+    (λ c. search needs)
+    (λ c κs. search needs)
+    (λ c. search needs)
+    (λ c. search needs)
+    (λ c κs. search needs)
+    (λ c. search needs)
+    (λ c. search needs)
+    (λ c. search needs)
+    (λ c. search needs)
+    (λ c. search needs))

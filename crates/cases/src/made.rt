@@ -1,0 +1,87 @@
+// A recorded call, made.
+use crate::record::Record;
+use apfs::apfs_entry;
+use apfs::apfs_extent;
+use apfs::apfs_link;
+use apfs::apfs_list;
+use apfs::apfs_lookup;
+use apfs::apfs_open;
+use apfs::apfs_read;
+use apfs::apfs_xattr;
+
+// No two bytes in a row are equal, so that one that is written where none may be shows.
+fn written_on(out: &mut [u8]) {
+    let mut x: u8 = 11;
+    let mut i = 0;
+    while i < out.len() {
+        out[i] = x;
+        x = std::num::wrapping_add_u8(x, 37);
+        i += 1;
+    }
+}
+
+fn made(r: Record, image: &[u8], path: &[u8], out: &mut [u8]) -> i64 {
+    let op = r.op;
+    match op {
+        3 => apfs_open(image, out),
+        4 => apfs_lookup(image, r.volume, path, out),
+        5 => apfs_read(image, r.volume, r.a, r.b, out),
+        6 => apfs_entry(image, r.volume, r.a, r.b, out),
+        7 => apfs_xattr(image, r.volume, r.a, r.b, out),
+        8 => apfs_link(image, r.volume, r.a, out),
+        9 => apfs_extent(image, r.volume, r.a, r.b, out),
+        _ => apfs_list(image, r.volume, out),
+    }
+}
+
+fn minus(refusal: u8) -> i64 {
+    match refusal {
+        1 => -1,
+        2 => -2,
+        3 => -3,
+        4 => -4,
+        5 => -5,
+        6 => -6,
+        7 => -7,
+        8 => -8,
+        9 => -9,
+        _ => -10,
+    }
+}
+
+fn wanted(r: Record) -> i64 {
+    let count = r.count;
+    let refusal = r.refusal;
+    if 0 < refusal {
+        return minus(refusal);
+    }
+    if 65536 < count {
+        return 65537;
+    }
+    count as i64
+}
+
+// The result is the recorded one, and so is the sum of all the buffer.
+fn answers(r: Record, image: &[u8], path: &[u8], out: &mut [u8]) -> bool {
+    written_on(out);
+    let got = made(r, image, path, out);
+    if got != wanted(r) {
+        return false;
+    }
+    name_hash::crc32c_raw(0xFFFFFFFF, out) as u64 == r.sum
+}
+
+// A call that no export has differs, and so does one with a buffer that is not to be had.
+pub fn agrees(r: Record, image: &[u8], path: &[u8], out: &mut [u8]) -> bool {
+    let room = r.room;
+    if r.op < 3 {
+        return false;
+    }
+    if 10 < r.op {
+        return false;
+    }
+    if out.len() < room {
+        return false;
+    }
+    answers(r, image, path, &mut out[..room])
+}

@@ -1,0 +1,106 @@
+// How many calls agree: under each title, and by export and refusal.
+use crate::record::Record;
+
+pub struct Tally {
+    // Whether a title stands printed, its counts still to come.
+    pub titled: bool,
+    pub agree: u64,
+    pub differ: u64,
+    // The length of the image that calls are made on.
+    pub size: usize,
+}
+
+fn one_more(n: u64) -> u64 {
+    if n < 18446744073709551615 { n + 1 } else { n }
+}
+
+// Eleven counts an export: answered, then refused with 1 to 10.
+fn kind_of(op: u8, refusal: u8) -> usize {
+    if op < 3 {
+        return 0;
+    }
+    if 10 < op {
+        return 0;
+    }
+    if 10 < refusal {
+        return 0;
+    }
+    (op - 3) as usize * 11 + refusal as usize
+}
+
+pub fn counted(t: Tally, r: Record, same: bool, kinds: &mut [u64; 88]) -> Tally {
+    if !same {
+        return Tally {
+            titled: t.titled,
+            agree: t.agree,
+            differ: one_more(t.differ),
+            size: t.size,
+        };
+    }
+    let k = kind_of(r.op, r.refusal);
+    if k < 88 {
+        kinds[k] = one_more(kinds[k]);
+    }
+    Tally {
+        titled: t.titled,
+        agree: one_more(t.agree),
+        differ: t.differ,
+        size: t.size,
+    }
+}
+
+pub fn print_tally(t: Tally) {
+    if !t.titled {
+        return;
+    }
+    io::write_all(1, b": ");
+    io::print_decimal(1, t.agree);
+    io::write_all(1, b" agree");
+    if 0 < t.differ {
+        io::write_all(1, b", ");
+        io::print_decimal(1, t.differ);
+        io::write_all(1, b" DIFFER");
+    }
+    io::write_all(1, b"\n");
+}
+
+fn print_export(op: usize) {
+    match op {
+        0 => io::write_all(1, b"apfs_open: "),
+        1 => io::write_all(1, b"apfs_lookup: "),
+        2 => io::write_all(1, b"apfs_read: "),
+        3 => io::write_all(1, b"apfs_entry: "),
+        4 => io::write_all(1, b"apfs_xattr: "),
+        5 => io::write_all(1, b"apfs_link: "),
+        6 => io::write_all(1, b"apfs_extent: "),
+        _ => io::write_all(1, b"apfs_list: "),
+    }
+    ;
+}
+
+fn print_kind(op: usize, refusal: usize, n: u64) {
+    if refusal == 0 {
+        print_export(op);
+        io::print_decimal(1, n);
+        io::write_all(1, b" answered");
+        return;
+    }
+    if n == 0 {
+        return;
+    }
+    io::write_all(1, b", ");
+    io::print_decimal(1, n);
+    io::write_all(1, b" refused with ");
+    io::print_decimal(1, refusal as u64);
+}
+
+pub fn print_kinds(kinds: &[u64; 88]) {
+    let mut k = 0;
+    while k < 88 {
+        print_kind(k / 11, k % 11, kinds[k]);
+        k += 1;
+        if k % 11 == 0 {
+            io::write_all(1, b"\n");
+        }
+    }
+}
