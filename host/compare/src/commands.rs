@@ -8,7 +8,7 @@ use compare::calls::{self, Port};
 use compare::comparison::Comparison;
 use compare::opening::{answer, check::check, run::Run, Open};
 use compare::volumes::Volumes;
-use compare::{bench, cases, list, reach, record, sample};
+use compare::{bench, cases, list, reach, record, recorded, sample};
 
 use crate::stop;
 
@@ -55,6 +55,15 @@ pub fn record(file: &str, seed: u64) {
         stop(&format!("{file}: {e}"));
     }
     println!("{} records, {} bytes", records.len(), bytes.len());
+}
+
+pub fn record_calls(file: &str, seed: u64) {
+    answer::silence_panics();
+    let bytes = recorded::recorded(seed).unwrap_or_else(|e| stop(&e));
+    if let Err(e) = std::fs::write(file, &bytes) {
+        stop(&format!("{file}: {e}"));
+    }
+    println!("{} bytes", bytes.len());
 }
 
 pub fn sticks(seed: u64, count: u64) {

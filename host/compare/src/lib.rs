@@ -26,6 +26,8 @@ pub mod random;
 pub mod reach;
 pub mod record;
 #[cfg(oracle)]
+pub mod recorded;
+#[cfg(oracle)]
 pub mod sample;
 #[cfg(oracle)]
 pub mod volumes;

@@ -7,6 +7,7 @@
 //! cargo run --release -p compare -- --seed 7        the same with other drawn cases
 //! cargo run --release -p compare -- record FILE     write a sample of the oracle's answers
 //! cargo run --release -p compare -- replay FILE     hold the port against such a sample
+//! cargo run --release -p compare -- record-calls FILE   write document 01's cases and a sample of calls on sticks
 //! cargo run --release -p compare -- sticks          open containers, whole and damaged
 //! cargo run --release -p compare -- sticks --seed 7 --count 20000
 //! cargo run --release -p compare -- volumes         open their volumes
@@ -43,12 +44,13 @@ const DEFAULT_FOR_CALLS: u64 = 3000;
 /// Each listing is a walk of the port through a whole volume, for each of two to ten buffers.
 const DEFAULT_FOR_LISTS: u64 = 1600;
 const USAGE: &str =
-    "usage: compare [record FILE | replay FILE | sticks | volumes | calls | list | reach | bench | open FILE..] \
+    "usage: compare [record FILE | record-calls FILE | replay FILE | sticks | volumes | calls | list | reach | bench | open FILE..] \
                      [--seed N] [--count K]";
 
 enum Command {
     Compare,
     Record(String),
+    RecordCalls(String),
     Replay(String),
     Sticks,
     Volumes,
@@ -98,6 +100,7 @@ fn command(words: &[String]) -> Command {
     match words.iter().map(String::as_str).collect::<Vec<_>>()[..] {
         [] => Command::Compare,
         ["record", file] => Command::Record(file.into()),
+        ["record-calls", file] => Command::RecordCalls(file.into()),
         ["replay", file] => Command::Replay(file.into()),
         ["sticks"] => Command::Sticks,
         ["volumes"] => Command::Volumes,
@@ -127,6 +130,7 @@ fn main() {
     match command {
         Command::Compare => commands::compare_leaves(seed),
         Command::Record(file) => commands::record(&file, seed),
+        Command::RecordCalls(file) => commands::record_calls(&file, seed),
         Command::Replay(file) => replay(&file),
         Command::Sticks => commands::sticks(seed, count),
         Command::Volumes => commands::volumes(seed, count),

@@ -12,6 +12,10 @@ pub fn record(_file: &str, _seed: u64) {
     none()
 }
 
+pub fn record_calls(_file: &str, _seed: u64) {
+    none()
+}
+
 pub fn sticks(_seed: u64, _count: u64) {
     none()
 }

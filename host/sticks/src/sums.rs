@@ -20,7 +20,7 @@ pub fn checksum(object: &[u8]) -> u64 {
     c2 << 32 | c1
 }
 
-fn crc32c(mut crc: u32, bytes: &[u8]) -> u32 {
+pub fn crc32c(mut crc: u32, bytes: &[u8]) -> u32 {
     for &b in bytes {
         crc ^= u32::from(b);
         for _ in 0..8 {

@@ -1,0 +1,88 @@
+//! The file read back.
+
+use std::sync::Arc;
+
+use crate::calls::call::Call;
+use crate::recorded::asked::{Asked, Question, Told};
+use crate::recorded::file::{answer, END, IMAGE, LONGEST, TITLE};
+
+pub struct Recorded {
+    pub image: Arc<Vec<u8>>,
+    pub question: Question,
+    /// The refusal or 0, the count, and the buffer's sum.
+    pub answer: (u8, u32, u32),
+}
+
+impl Recorded {
+    pub fn tells(&self, told: &Told) -> bool {
+        self.answer == answer(&self.question, told)
+    }
+}
+
+fn take<'a>(rest: &mut &'a [u8], n: usize) -> Result<&'a [u8], String> {
+    let (part, after) = rest.split_at_checked(n).ok_or_else(|| format!("{} bytes left of {n}", rest.len()))?;
+    *rest = after;
+    Ok(part)
+}
+
+fn number(rest: &mut &[u8], width: usize) -> Result<u64, String> {
+    Ok(take(rest, width)?.iter().rev().fold(0, |n, &x| n << 8 | u64::from(x)))
+}
+
+/// Writes the parts over the buffer.
+fn lay(mut parts: &[u8], buffer: &mut [u8]) -> Result<(), String> {
+    let mut at = 0;
+    while !parts.is_empty() {
+        at += number(&mut parts, 4)? as usize;
+        let len = number(&mut parts, 4)? as usize;
+        let part = take(&mut parts, len)?;
+        buffer.get_mut(at..at + len).ok_or("a part past the image")?.copy_from_slice(part);
+        at += len;
+    }
+    Ok(())
+}
+
+fn asked(op: u8, a: u64, b: u64, room: usize, input: &[u8]) -> Result<Asked, String> {
+    Ok(match op {
+        3 => Asked::Open,
+        4 => Asked::Call(Call::Lookup { path: input.to_vec() }),
+        5 => Asked::Call(Call::Read { id: a, offset: b, length: room }),
+        6 => Asked::Call(Call::Entry { id: a, place: b }),
+        7 => Asked::Call(Call::Xattr { id: a, place: b }),
+        8 => Asked::Call(Call::Link { id: a }),
+        9 => Asked::Call(Call::Extent { id: a, place: b }),
+        10 => Asked::List,
+        _ => return Err(format!("no op {op}")),
+    })
+}
+
+/// Every call, with the image that it is made on.
+pub fn decode(mut rest: &[u8]) -> Result<Vec<Recorded>, String> {
+    let (mut buffer, mut image, mut out) = (vec![0; LONGEST], Arc::default(), Vec::new());
+    loop {
+        let op = number(&mut rest, 1)? as u8;
+        if op == END {
+            return if rest.is_empty() { Ok(out) } else { Err(format!("{} bytes after the end", rest.len())) };
+        }
+        let refusal = number(&mut rest, 1)? as u8;
+        let [volume, a, b] = [number(&mut rest, 8)?, number(&mut rest, 8)?, number(&mut rest, 8)?];
+        let [room, count, sum] = [number(&mut rest, 4)?, number(&mut rest, 4)?, number(&mut rest, 4)?];
+        let len = number(&mut rest, 4)? as usize;
+        let input = take(&mut rest, len)?;
+        match op {
+            TITLE => {}
+            IMAGE => {
+                if b == 0 {
+                    buffer.fill(0);
+                }
+                lay(input, &mut buffer)?;
+                image = Arc::new(buffer.get(..a as usize).ok_or("an image too long")?.to_vec());
+            }
+            _ => {
+                let question = Question { volume, asked: asked(op, a, b, room as usize, input)?, room: room as usize };
+                let answer = (refusal, count as u32, sum as u32);
+                out.push(Recorded { image: Arc::clone(&image), question, answer });
+            }
+        }
+    }
+}

@@ -1,0 +1,135 @@
+//! Document 01's cases, each with what the paper says of it, and small sticks that show them.
+
+mod listing;
+mod opening;
+mod paths;
+mod reads;
+mod records;
+mod stick;
+mod trees;
+mod volumes;
+
+use std::sync::Arc;
+
+use crate::calls::call::Call;
+use crate::recorded::asked::{told, Asked, Question, Told};
+use crate::recorded::file::File;
+
+/// What document 01 says.
+pub enum Said {
+    Refused(u64),
+    /// This text, of a call that writes one.
+    Text(String),
+    /// These bytes, of a read.
+    Bytes(Vec<u8>),
+    /// Some answer: what it is the oracle says.
+    Answered,
+}
+
+pub struct Stated {
+    pub question: Question,
+    pub said: Said,
+}
+
+/// Cases under one title, each with its image.
+pub struct Group {
+    pub title: &'static str,
+    pub cases: Vec<(Vec<u8>, Vec<Stated>)>,
+}
+
+/// Long enough for any answer here but a listing's of a deep volume.
+pub const ROOM: usize = 4096;
+
+impl Stated {
+    fn new(asked: Asked, room: usize, said: Said) -> Stated {
+        Stated { question: Question { volume: 0, asked, room }, said }
+    }
+
+    pub fn open(said: Said) -> Stated {
+        Stated::new(Asked::Open, ROOM, said)
+    }
+
+    pub fn list(room: usize, said: Said) -> Stated {
+        Stated::new(Asked::List, room, said)
+    }
+
+    pub fn lookup(path: impl Into<Vec<u8>>, said: Said) -> Stated {
+        Stated::call(Call::Lookup { path: path.into() }, said)
+    }
+
+    pub fn call(call: Call, said: Said) -> Stated {
+        let room = match call {
+            Call::Read { length, .. } => length,
+            _ => ROOM,
+        };
+        Stated::new(Asked::Call(call), room, said)
+    }
+
+    pub fn of_volume(mut self, volume: u64) -> Stated {
+        self.question.volume = volume;
+        self
+    }
+
+    pub fn into_room(mut self, room: usize) -> Stated {
+        self.question.room = room;
+        self
+    }
+
+    /// The answer to record. The oracle must say what the paper says, where it says anything.
+    fn answer(self, image: &Arc<Vec<u8>>) -> Result<(Question, Told), String> {
+        let by_oracle = told(image, &self.question);
+        let said = match (self.said, &by_oracle) {
+            (Said::Refused(n), _) => Told::Refused(n),
+            (Said::Text(text), _) => Told::Bytes(text.into_bytes()),
+            (Said::Bytes(bytes), _) => Told::Bytes(bytes),
+            (Said::Answered, Some(Told::Bytes(bytes))) => Told::Bytes(bytes.clone()),
+            (Said::Answered, other) => return Err(format!("{}: {other:?} is no answer", self.question)),
+        };
+        match by_oracle {
+            Some(other) if other != said => Err(format!("{}: {said:?} is stated, {other:?} given", self.question)),
+            _ => Ok((self.question, said)),
+        }
+    }
+}
+
+pub fn groups() -> Vec<Group> {
+    [
+        opening::groups(),
+        volumes::groups(),
+        trees::groups(),
+        records::groups(),
+        paths::groups(),
+        reads::groups(),
+        listing::groups(),
+    ]
+    .into_iter()
+    .flatten()
+    .collect()
+}
+
+/// An error tells each case that the oracle answers otherwise.
+pub fn write(file: &mut File) -> Result<(), String> {
+    let mut wrong = Vec::new();
+    for group in groups() {
+        file.title(group.title);
+        for (image, cases) in group.cases {
+            let image = Arc::new(image);
+            file.image(&image);
+            for case in cases {
+                match case.answer(&image) {
+                    Ok((question, told)) => file.call(&question, &told),
+                    Err(e) => wrong.push(format!("{}: {e}", group.title)),
+                }
+            }
+        }
+    }
+    if wrong.is_empty() {
+        Ok(())
+    } else {
+        Err(wrong.join("\n"))
+    }
+}
+
+fn group(title: &'static str, cases: Vec<(Vec<u8>, Vec<Stated>)>) -> Group {
+    Group { title, cases }
+}

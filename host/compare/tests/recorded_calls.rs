@@ -1,0 +1,47 @@
+//! The recorded calls that `crates/cases` replays: each answer is still the oracle's, or document 01's.
+
+#![cfg(oracle)]
+
+use std::collections::BTreeSet;
+
+use compare::recorded::asked::told;
+use compare::recorded::file::File;
+use compare::recorded::read::{decode, Recorded};
+
+fn recorded() -> Vec<Recorded> {
+    let file = concat!(env!("CARGO_MANIFEST_DIR"), "/../../crates/cases/stdin");
+    decode(&std::fs::read(file).expect("the recorded calls")).expect("a whole file")
+}
+
+#[test]
+fn every_answer_is_the_oracles() {
+    let differ = |r: &Recorded| told(&r.image, &r.question).is_some_and(|t| !r.tells(&t));
+    let wrong: Vec<String> = recorded().iter().filter(|r| differ(r)).map(|r| r.question.to_string()).collect();
+    assert_eq!(wrong, Vec::<String>::new());
+}
+
+#[test]
+fn every_export_and_refusal_is_there() {
+    let seen: BTreeSet<(&str, u8)> = recorded().iter().map(|r| (r.question.asked.name(), r.answer.0)).collect();
+    for name in ["open", "lookup", "read", "entry", "xattr", "link", "extent", "list"] {
+        let known: &[u8] = match name {
+            "open" => &[0, 1, 2, 3, 4, 6, 8],
+            "lookup" => &[0, 1, 2, 3, 4, 5, 6, 8, 9],
+            "read" => &[0, 1, 2, 3, 4, 8],
+            "list" => &[0, 1, 2, 3, 4, 6, 8, 10],
+            _ => &[0, 1, 2, 3, 4, 6, 8],
+        };
+        let missing: Vec<&u8> = known.iter().filter(|n| !seen.contains(&(name, **n))).collect();
+        assert!(missing.is_empty(), "{name}: {missing:?}");
+    }
+}
+
+#[test]
+fn what_is_cut_is_refused() {
+    let mut file = File::default();
+    file.title("one");
+    file.image(&[0, 0, 7, 7]);
+    let bytes = file.finish();
+    assert!(decode(&bytes).is_ok_and(|r| r.is_empty()));
+    assert!((0..bytes.len()).all(|n| decode(&bytes[..n]).is_err()));
+}
