@@ -7,6 +7,7 @@ use std::sync::Arc;
 use compare::calls::{self, Port};
 use compare::comparison::Comparison;
 use compare::opening::{answer, check::check, run::Run, Open};
+use compare::pairs::{self, by_oracle, Ports};
 use compare::volumes::Volumes;
 use compare::{bench, cases, list, reach, record, recorded, sample};
 
@@ -144,6 +145,20 @@ pub fn list(seed: u64, count: u64) {
     }
     good &= vast(list_port().map(list::edges::vast));
     finish("list", good, if list_port().is_some() { "all agree" } else { "the oracle alone was asked" });
+}
+
+pub fn pairs(seed: u64, count: u64) {
+    answer::silence_panics();
+    let ports = Ports { list: list_port().unwrap_or(&by_oracle::list), call: calls_port().unwrap_or(&by_oracle::call) };
+    let run = pairs::run::Run::over(seed, count, ports);
+    print!("seed {seed}, {count} sticks\n{}", run.tally);
+    let missing = run.tally.missing();
+    let mut good = !run.report_failure(Path::new("target"));
+    if good && !missing.is_empty() {
+        println!("never seen: {}", missing.join(", "));
+        good = false;
+    }
+    finish("pairs", good, if calls_port().is_some() { "all as they must be" } else { "the oracle alone was asked" });
 }
 
 pub fn reach(seed: u64, count: u64) {

@@ -1,6 +1,6 @@
 //! The port as safe functions, and its comparison with the published Rust: leaves ([`leaf`]), the
 //! opening of containers ([`opening`]) and of volumes ([`volumes`]), the calls on volumes ([`calls`]) and their
-//! listings ([`list`]).
+//! listings ([`list`]), and of two sticks at a time ([`pairs`]).
 //!
 //! The comparison needs the oracle; without the published sources only [`port`], [`leaf`] and the
 //! file format of [`record`] are built.
@@ -20,6 +20,8 @@ pub mod leaf;
 pub mod list;
 #[cfg(oracle)]
 pub mod opening;
+#[cfg(oracle)]
+pub mod pairs;
 pub mod port;
 pub mod random;
 #[cfg(oracle)]

@@ -13,13 +13,14 @@
 //! cargo run --release -p compare -- volumes         open their volumes
 //! cargo run --release -p compare -- calls           the calls on their volumes
 //! cargo run --release -p compare -- list            the listings of their volumes
+//! cargo run --release -p compare -- pairs           two sticks at a time: the same contents, and one thing changed
 //! cargo run --release -p compare -- reach           every call of the oracle on sticks, and what became of it
 //! cargo run --release -p compare -- open FILE..     open these images, and print each answer
 //! ```
 //!
 //! After `rt staticlib apfs`, with `--features apfs`, `sticks` and `open` hold the port's opening
-//! against the oracle's, and with `--features calls` `calls` and `list` do the same of its calls and its
-//! listings; without these features they ask the oracle alone. Timings of both:
+//! against the oracle's, and with `--features calls` `calls`, `list` and `pairs` do the same of its calls and
+//! its listings; without these features they ask the oracle alone. Timings of both:
 //!
 //! ```text
 //! cargo run --profile speed --features calls -p compare -- bench
@@ -43,8 +44,10 @@ const DEFAULT_STICKS: u64 = 4000;
 const DEFAULT_FOR_CALLS: u64 = 3000;
 /// Each listing is a walk of the port through a whole volume, for each of two to ten buffers.
 const DEFAULT_FOR_LISTS: u64 = 1600;
+/// Each stick has a second one beside it, and others with one thing changed.
+const DEFAULT_FOR_PAIRS: u64 = 300;
 const USAGE: &str =
-    "usage: compare [record FILE | record-calls FILE | replay FILE | sticks | volumes | calls | list | reach | bench | open FILE..] \
+    "usage: compare [record FILE | record-calls FILE | replay FILE | sticks | volumes | calls | list | pairs | reach | bench | open FILE..] \
                      [--seed N] [--count K]";
 
 enum Command {
@@ -56,6 +59,7 @@ enum Command {
     Volumes,
     Calls,
     List,
+    Pairs,
     Reach,
     Bench,
     Open(Vec<String>),
@@ -91,6 +95,7 @@ fn arguments() -> Arguments {
     let usual = match command {
         Command::Calls => DEFAULT_FOR_CALLS,
         Command::List => DEFAULT_FOR_LISTS,
+        Command::Pairs => DEFAULT_FOR_PAIRS,
         _ => DEFAULT_STICKS,
     };
     Arguments { command, seed, count: count.unwrap_or(usual) }
@@ -106,6 +111,7 @@ fn command(words: &[String]) -> Command {
         ["volumes"] => Command::Volumes,
         ["calls"] => Command::Calls,
         ["list"] => Command::List,
+        ["pairs"] => Command::Pairs,
         ["reach"] => Command::Reach,
         ["bench"] => Command::Bench,
         ["open", _, ..] => Command::Open(words[1..].to_vec()),
@@ -136,6 +142,7 @@ fn main() {
         Command::Volumes => commands::volumes(seed, count),
         Command::Calls => commands::calls(seed, count),
         Command::List => commands::list(seed, count),
+        Command::Pairs => commands::pairs(seed, count),
         Command::Reach => commands::reach(seed, count),
         Command::Bench => commands::bench(),
         Command::Open(files) => commands::open(&files),

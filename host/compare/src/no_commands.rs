@@ -32,6 +32,10 @@ pub fn list(_seed: u64, _count: u64) {
     none()
 }
 
+pub fn pairs(_seed: u64, _count: u64) {
+    none()
+}
+
 pub fn reach(_seed: u64, _count: u64) {
     none()
 }

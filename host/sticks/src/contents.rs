@@ -122,7 +122,8 @@ pub fn text(field: &[u8]) -> String {
 }
 
 impl Inode {
-    fn last(&self, kind: u8) -> Option<&Field> {
+    /// The copy of a field that counts.
+    pub fn last(&self, kind: u8) -> Option<&Field> {
         self.fields.iter().rev().find(|f| f.kind == kind)
     }
 

@@ -62,7 +62,7 @@ impl Maker<'_> {
         if !self.c.regular {
             self.stray();
         }
-        self.others();
+        self.c.others.extend(others(&self.c.files, self.r));
         self.settle_order();
     }
 
@@ -270,17 +270,6 @@ impl Maker<'_> {
         self.c.others.push(Record::new(key, self.r.bytes(value)));
     }
 
-    /// Ghosts, and records that no call asks for.
-    fn others(&mut self) {
-        for _ in 0..self.r.below(4) {
-            let id = self.c.files[self.r.place(self.c.files.len())].inode.id;
-            let ghost = self.r.chance(1, 2);
-            let kind = if ghost { self.r.pick(&[3, 4, 8, 9]) } else { self.r.pick(&[2, 5, 6, 10, 12]) };
-            let key = [head(id, kind), self.r.bytes(8)].concat();
-            self.c.others.push(if ghost { Record::ghost(key) } else { Record::new(key, vec![1; 4]) });
-        }
-    }
-
     /// Directory records by their keys, as a tree wants them, in half of the volumes.
     fn settle_order(&mut self) {
         if self.r.chance(1, 2) {
@@ -292,4 +281,17 @@ impl Maker<'_> {
             f.attributes.sort_by(|a, b| a.name.cmp(&b.name));
         }
     }
+}
+
+/// Ghosts, and records that no call asks for.
+pub fn others(files: &[File], r: &mut Random) -> Vec<Record> {
+    let mut out = Vec::new();
+    for _ in 0..r.below(4) {
+        let id = files[r.place(files.len())].inode.id;
+        let ghost = r.chance(1, 2);
+        let kind = if ghost { r.pick(&[3, 4, 8, 9]) } else { r.pick(&[2, 5, 6, 10, 12]) };
+        let key = [head(id, kind), r.bytes(8)].concat();
+        out.push(if ghost { Record::ghost(key) } else { Record::new(key, vec![1; 4]) });
+    }
+    out
 }

@@ -4,6 +4,7 @@ mod data;
 mod files;
 pub mod large;
 mod names;
+mod otherwise;
 mod ring;
 mod shape;
 
@@ -68,6 +69,25 @@ impl Plan {
         let block_size = if small { 4096 } else { r.pick(&LARGER_BLOCKS) };
         let xid = transaction(&mut r);
         let volumes = volumes(block_size, &mut r);
+        Plan::around(volumes, seed, block_size, xid, odd, r)
+    }
+
+    /// Another stick that shows the same, though its volumes stand otherwise in its image.
+    pub fn relaid(&self, seed: u64) -> Plan {
+        let mut r = Random::new(seed);
+        let block_size = if r.chance(1, 2) { 4096 } else { r.pick(&LARGER_BLOCKS) };
+        let xid = transaction(&mut r);
+        let first = r.between(2, 5000);
+        let again = |(i, v): (usize, &Volume)| {
+            let contents = otherwise::contents(&v.contents, &mut r);
+            Volume { contents, lost: None, muddled: false, ..volume(first + 7 * i as u64, 4096, &mut r) }
+        };
+        let volumes = self.volumes.iter().enumerate().map(again).collect();
+        Plan::around(volumes, seed, block_size, xid, None, r)
+    }
+
+    /// All else but what is given is drawn.
+    fn around(volumes: Vec<Volume>, seed: u64, block_size: usize, xid: u64, odd: Option<Odd>, mut r: Random) -> Plan {
         let (slots, max_file_systems) = slots(&volumes, &mut r);
         Plan {
             seed,
