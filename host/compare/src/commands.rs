@@ -170,6 +170,7 @@ pub fn bench() {
     answer::silence_panics();
     print!("{}", bench::opening::run(port()));
     print!("{}", bench::calls::run(calls_port()));
+    print!("{}", bench::listing::run(list_port()));
 }
 
 pub fn open(files: &[String]) {

@@ -1,6 +1,7 @@
 //! How long calls take, by the port and by the oracle.
 
 pub mod calls;
+pub mod listing;
 pub mod opening;
 
 use std::fmt::Write as _;

@@ -68,12 +68,17 @@ pub fn of_image(image: &Arc<Vec<u8>>, volume: u64) -> Trace {
 }
 
 pub fn of_container(image: &[u8], c: &Container, volume: u64) -> Trace {
+    with_room(image, c, volume, LONGEST)
+}
+
+/// A text of more than `room` bytes is not followed to its end.
+pub fn with_room(image: &[u8], c: &Container, volume: u64, room: usize) -> Trace {
     let v = match caught(|| c.volume(volume as usize)) {
         Ok(Ok(v)) => v,
         Ok(Err(e)) => return Trace::only(End::Refused(probe::class(&e))),
         Err(a) => return Trace::only(stopped(a, true)),
     };
-    let mut walk = Walk { image, c, v: &v, text: Vec::new(), depth: None, weight: 0 };
+    let mut walk = Walk { image, c, v: &v, room, text: Vec::new(), depth: None, weight: 0 };
     let walked = caught(|| walk.volume());
     let end = walked.map_or_else(|a| stopped(a, true), End::from);
     Trace { text: walk.text, depth: walk.depth, weight: walk.weight, end }
@@ -83,6 +88,7 @@ struct Walk<'w> {
     image: &'w [u8],
     c: &'w Container,
     v: &'w Volume<'w>,
+    room: usize,
     text: Vec<u8>,
     depth: Option<u64>,
     weight: u64,
@@ -91,7 +97,7 @@ struct Walk<'w> {
 impl Walk<'_> {
     fn line(&mut self, line: &str) -> Walked {
         self.text.extend(line.bytes());
-        if self.text.len() > LONGEST {
+        if self.text.len() > self.room {
             return Err(Halt::More);
         }
         Ok(())

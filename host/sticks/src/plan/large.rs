@@ -72,6 +72,28 @@ pub fn chain(depth: u64, times: u64) -> Contents {
     contents((0..=depth).map(directory).collect(), Vec::new())
 }
 
+/// A volume of `n` entries: directories one in the other, at most `depth` below the root, and empty files spread over
+/// them, each with an inode of its own.
+pub fn spread(n: u64, depth: u64) -> Contents {
+    let depth = depth.min(n / 2);
+    let id = |i: u64| if i == 0 { ROOT } else { 15 + i };
+    let empty =
+        |id: u64, kind: u16| File { inode: inode(id, kind, Vec::new()), attributes: Vec::new(), entries: Vec::new() };
+    let mut files: Vec<File> = (0..=depth).map(|i| empty(id(i), DIRECTORY)).collect();
+    for i in 0..depth {
+        files[i as usize].entries.push(entry("next".into(), id(i + 1), DIRECTORY));
+    }
+    for k in 0..n - depth {
+        let file = id(depth + 1 + k);
+        files[(k % (depth + 1)) as usize].entries.push(entry(format!("entry-{k:06}"), file, REGULAR));
+        files.push(empty(file, REGULAR));
+    }
+    for f in &mut files {
+        f.entries.sort_by_cached_key(|e| (name_hash(&e.name, true), e.name.clone()));
+    }
+    contents(files, Vec::new())
+}
+
 /// A file `data` of `size` bytes in as many extents.
 pub fn file(size: u64, extents: u64, block_size: usize, r: &mut Random) -> Contents {
     let length = size.div_ceil(extents);

@@ -1,0 +1,45 @@
+//! Listings of flat and nested volumes of several sizes. Both sides open the container and the volume for
+//! each listing.
+
+use std::hint::black_box;
+use std::sync::Arc;
+
+use sticks::plan::large;
+use sticks::{make, Plan};
+
+use crate::bench::{line, Timed};
+use crate::list::trace::{End, Trace};
+use crate::list::{walk, Port};
+use crate::opening::answer::container;
+
+const ENTRIES: [u64; 3] = [10, 1000, 100_000];
+/// Below the root: one directory, or as many as can be listed with files in the last.
+const DEPTHS: [(&str, u64); 2] = [("flat", 0), ("nested", 63)];
+const ROOM: usize = 1 << 26;
+
+fn by_oracle(image: &Arc<Vec<u8>>) -> Trace {
+    let c = container(image).expect("a container");
+    walk::with_room(image, &c, 0, ROOM)
+}
+
+fn volume(entries: u64, name: &str, depth: u64, port: Option<Port>) -> String {
+    let image = Arc::new(make(Plan::with_contents(large::spread(entries, depth), 5)).image);
+    let want = by_oracle(&image);
+    let text = want.text;
+    assert!(want.end == End::Whole, "{:?}", want.end);
+    let mut buffer = vec![0; text.len()];
+    let n = port.map(|p| p(&image, 0, &mut buffer));
+    assert!(n.is_none_or(|n| n == text.len() as i64 && buffer == text), "{n:?} and not {}", text.len());
+    let mut oracle = || drop(black_box(by_oracle(black_box(&image))));
+    let mut ours = || {
+        black_box(port.map(|p| p(black_box(&image), 0, &mut buffer)));
+    };
+    let ours: Option<Timed> = port.is_some().then_some(&mut ours);
+    line(&format!("listing of {entries:>6} entries, {name:6}"), &mut oracle, None, ours)
+}
+
+/// Medians in lines of text; without a port, the oracle's alone.
+pub fn run(port: Option<Port>) -> String {
+    let volumes = DEPTHS.into_iter().flat_map(|(name, depth)| ENTRIES.map(|n| (n, name, depth)));
+    volumes.map(|(n, name, depth)| volume(n, name, depth, port)).collect()
+}
