@@ -33,9 +33,12 @@ pub fn make(plan: Plan) -> Stick {
     let mut disk = Disk::new(plan.block_size, plan.gaps, random.fork());
     let early = plan.ring_first.then(|| disk.take(u64::from(plan.ring.blocks)));
     let objects: Vec<(u64, u64)> =
-        plan.volumes.iter().map(|v| (v.oid, volume::write(v, plan.xid, &mut disk))).collect();
+        plan.volumes.iter().map(|v| (v.oid, volume::write(v, plan.xid, plan.history, &mut disk))).collect();
     // Of a volume's superblock, the flag of encrypted objects says nothing to a reader.
-    let mappings = omap::history(&objects, plan.xid, &[0, 0x2, ENCRYPTED, 0x10], &mut random);
+    let mappings = match plan.history {
+        true => omap::history(&objects, plan.xid, &[0, 0x2, ENCRYPTED, 0x10], &mut random),
+        false => omap::current(&objects, plan.xid),
+    };
     let (map, root) = omap::write(mappings, plan.xid, &mut disk, &mut plan.map.clone());
     let base = early.unwrap_or_else(|| disk.take(u64::from(plan.ring.blocks)));
     let apart = plan.ring.checkpoints.iter().filter(|c| c.apart).count() as u64;

@@ -37,6 +37,11 @@ impl Mapping {
     }
 }
 
+/// Each object as of `xid` alone.
+pub fn current(objects: &[(u64, u64)], xid: u64) -> Vec<Mapping> {
+    objects.iter().map(|&(oid, block)| Mapping::new(oid, xid, block)).collect()
+}
+
 /// Each object as of `xid`, with some of `flags`, among older and later versions and objects that nobody asks for.
 pub fn history(objects: &[(u64, u64)], xid: u64, flags: &[u32], random: &mut Random) -> Vec<Mapping> {
     let mut out = Vec::new();
@@ -83,6 +88,7 @@ pub fn write(mut mappings: Vec<Mapping>, xid: u64, disk: &mut Disk, shape: &mut 
     let mut b = disk.empty_block();
     // Readers go by the low 16 bits.
     let storage = shape.random.pick(&[PHYSICAL, PHYSICAL, PHYSICAL, 0, PHYSICAL | ENCRYPTED_OBJECT]);
+    let storage = if shape.typed { PHYSICAL } else { storage };
     header(&mut b, at, xid, OMAP | storage, 0);
     put32(&mut b, 40, BTREE | PHYSICAL);
     put32(&mut b, 44, BTREE | PHYSICAL);

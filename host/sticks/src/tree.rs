@@ -31,6 +31,8 @@ pub struct Shape {
     pub sizes: Sizes,
     /// Whether nodes have gaps and disorder inside.
     pub loose: bool,
+    /// Whether every object has the type that the reference gives it, to which readers here don't hold it.
+    pub typed: bool,
     pub random: Random,
 }
 
@@ -244,7 +246,7 @@ impl Place<'_> {
     fn kind(&self, root: bool, shape: &mut Shape) -> u32 {
         let storage = if matches!(self.ids, Ids::Physical) { PHYSICAL } else { 0 };
         // Readers take either kind for either place.
-        let usual = shape.random.chance(15, 16);
+        let usual = shape.random.chance(15, 16) || shape.typed;
         storage | if root == usual { BTREE } else { BTREE_NODE }
     }
 

@@ -4,7 +4,7 @@ use crate::block::{header, put, put32, put64, seal, BTREE, FS, FSTREE};
 use crate::contents::Contents;
 use crate::disk::Disk;
 use crate::node::Info;
-use crate::omap::{self, DELETED, ENCRYPTED};
+use crate::omap::{self, Mapping, DELETED, ENCRYPTED};
 use crate::random::Random;
 use crate::record;
 use crate::tree::{grow, Ids, Place, Shape};
@@ -53,8 +53,8 @@ impl Volume {
     }
 }
 
-/// Writes all of it; the superblock's block.
-pub fn write(v: &Volume, xid: u64, disk: &mut Disk) -> u64 {
+/// Writes all of it, with older and later versions of its objects if there is a `history`; the superblock's block.
+pub fn write(v: &Volume, xid: u64, history: bool, disk: &mut Disk) -> u64 {
     let mut random = v.random.clone();
     let mut records = record::all(&v.contents, disk);
     if v.muddled && records.len() > 1 {
@@ -69,31 +69,35 @@ pub fn write(v: &Volume, xid: u64, disk: &mut Disk) -> u64 {
     let mut place = Place { disk, ids, xid: node_xid, subtype: FSTREE, info };
     let (root, _) = place.write(&tree, &mut shape);
     let Ids::Virtual { mapped, .. } = place.ids else { unreachable!("the tree is virtual") };
-    let map = write_map(v, &mapped, xid, disk, &mut random);
+    let mappings = match history {
+        true => omap::history(&mapped, xid, &[0, 0x2, 0x8, 0x10], &mut random),
+        false => omap::current(&mapped, xid),
+    };
+    let mappings = spoiled(v, mappings, &mapped, &mut random);
+    let map = omap::write(mappings, xid, disk, &mut v.map.clone()).0;
     let at = disk.take(1);
     let b = superblock(v, xid, map, root, disk.block_size);
     disk.put(at, &b);
     at
 }
 
-fn write_map(v: &Volume, mapped: &[(u64, u64)], xid: u64, disk: &mut Disk, random: &mut Random) -> u64 {
-    let mut mappings = omap::history(mapped, xid, &[0, 0x2, 0x8, 0x10], random);
-    if let Some(lost) = v.lost {
-        let (oid, _) = random.pick(mapped);
-        for m in mappings.iter_mut().filter(|m| m.oid == oid) {
-            match lost {
-                Lost::Deleted => m.flags |= DELETED,
-                Lost::Ghost => m.ghost = true,
-                Lost::Encrypted => m.flags |= ENCRYPTED,
-                Lost::Missing => {}
-                Lost::Far => m.block = FAR,
-            }
-        }
-        if lost == Lost::Missing {
-            mappings.retain(|m| m.oid != oid);
+/// The mappings with the plan's fault.
+fn spoiled(v: &Volume, mut mappings: Vec<Mapping>, mapped: &[(u64, u64)], random: &mut Random) -> Vec<Mapping> {
+    let Some(lost) = v.lost else { return mappings };
+    let (oid, _) = random.pick(mapped);
+    for m in mappings.iter_mut().filter(|m| m.oid == oid) {
+        match lost {
+            Lost::Deleted => m.flags |= DELETED,
+            Lost::Ghost => m.ghost = true,
+            Lost::Encrypted => m.flags |= ENCRYPTED,
+            Lost::Missing => {}
+            Lost::Far => m.block = FAR,
         }
     }
-    omap::write(mappings, xid, disk, &mut v.map.clone()).0
+    if lost == Lost::Missing {
+        mappings.retain(|m| m.oid != oid);
+    }
+    mappings
 }
 
 fn superblock(v: &Volume, xid: u64, map: u64, root: u64, block_size: usize) -> Vec<u8> {

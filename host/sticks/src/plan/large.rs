@@ -21,6 +21,7 @@ pub fn dense(sizes: Sizes, r: &mut Random) -> Shape {
         hollow: false,
         sizes,
         loose: false,
+        typed: true,
         random: r.fork(),
     }
 }

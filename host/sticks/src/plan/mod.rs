@@ -5,6 +5,7 @@ mod files;
 pub mod large;
 mod names;
 mod otherwise;
+mod proper;
 mod ring;
 mod shape;
 
@@ -48,6 +49,8 @@ pub struct Plan {
     /// Whether the ring stands before the volumes.
     pub ring_first: bool,
     pub stale_zero: bool,
+    /// Whether object maps hold older and later versions.
+    pub history: bool,
     pub volumes: Vec<Volume>,
     pub slots: Vec<u64>,
     pub max_file_systems: u32,
@@ -97,6 +100,7 @@ impl Plan {
             ring: ring::draw(xid, odd == Some(Odd::NoCheckpoint), &mut r),
             ring_first: r.chance(3, 4),
             stale_zero: r.chance(1, 2),
+            history: true,
             volumes,
             slots,
             max_file_systems,
@@ -123,6 +127,7 @@ impl Plan {
             ring: ring::full(xid, blocks),
             ring_first: true,
             stale_zero: false,
+            history: true,
             slots: vec![1026],
             volumes,
             max_file_systems: 100,
@@ -152,6 +157,16 @@ impl Plan {
             random: r.fork(),
         }];
         plan
+    }
+
+    /// A stick of these contents for other readers, who want each superblock and each object's type as they should be
+    /// and know of no older versions.
+    pub fn proper(contents: &Contents, seed: u64) -> Plan {
+        let mut plan = Plan::with_contents(proper::contents(contents), seed);
+        let mut r = Random::new(seed);
+        let tree = &mut plan.volumes[0].tree;
+        (tree.leaf, tree.index) = (r.pick(&[2, 5, 12, 4000]), r.pick(&[2, 3, 6, 4000]));
+        Plan { ring: ring::full(plan.xid, 2), history: false, ..plan }
     }
 
     /// Blocks that are counted and present are few.

@@ -14,6 +14,7 @@ fn draw(sizes: Sizes, r: &mut Random) -> Shape {
         hollow: false,
         sizes,
         loose: r.chance(1, 2),
+        typed: false,
         random: r.fork(),
     }
 }
