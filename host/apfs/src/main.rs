@@ -10,6 +10,9 @@
 //! `--volume N` names another volume than the first, which is 0. Refusals go to standard error, and
 //! the exit status is then 1; it is 2 where the arguments are wrong. A listing has as much room as it
 //! needs, up to 1 GiB or eight times the image; sparse files may ask for more, which is refusal 6.
+//!
+//! No call lists one directory: `ls` makes a call for each entry, and each goes through all of them. Of
+//! a directory with many thousands `list` tells sooner.
 
 mod tool;
 

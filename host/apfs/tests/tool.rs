@@ -144,15 +144,67 @@ fn a_listing_is_refused_in_words() {
     refused(Image::of("list-empty", b"").run(&["list"], &[]), 1);
 }
 
-#[test]
-fn a_closed_pipe_ends_quietly() {
-    let image = Image::holding("pipe", large::file(4 * SIZE, 3, 4096, &mut Random::new(2)));
+/// What becomes of the tool when its reader leaves after some bytes.
+fn left_early(image: &Image, words: &[&str], path: &[&str]) -> Output {
     let mut command = Command::new(env!("CARGO_BIN_EXE_apfs"));
-    command.args(["cat"]).arg(&image.0).arg("data").stdout(Stdio::piped()).stderr(Stdio::piped());
+    command.args(words).arg(&image.0).args(path).stdout(Stdio::piped()).stderr(Stdio::piped());
     let mut child = command.spawn().expect("the tool");
     let mut pipe = child.stdout.take().expect("a pipe");
     pipe.read_exact(&mut [0; 10]).expect("some bytes");
     drop(pipe);
-    let o = child.wait_with_output().expect("an end");
-    assert!(o.status.success() && o.stderr.is_empty(), "{o:?}");
+    child.wait_with_output().expect("an end")
+}
+
+#[test]
+fn a_closed_pipe_ends_quietly() {
+    let image = Image::holding("pipe", large::file(4 * SIZE, 3, 4096, &mut Random::new(2)));
+    for (words, path) in [(["cat"], &["data"][..]), (["list"], &[])] {
+        let o = left_early(&image, &words, path);
+        assert!(o.status.success() && o.stderr.is_empty(), "{words:?} {o:?}");
+    }
+}
+
+#[test]
+fn a_file_gets_what_a_pipe_gets() {
+    let image = Image::holding("redirected", file().0);
+    let text = Image::of("text", b"");
+    let to = std::fs::File::create(&text.0).expect("a file");
+    let mut command = Command::new(env!("CARGO_BIN_EXE_apfs"));
+    let status = command.arg("list").arg(&image.0).stdout(to).status().expect("the tool");
+    let written = std::fs::read_to_string(&text.0).expect("a text");
+    assert!(status.success() && written == out(image.run(&["list"], &[])));
+}
+
+#[cfg(target_os = "linux")]
+#[test]
+fn output_that_has_no_room_is_told() {
+    let image = Image::holding("full", file().0);
+    for (name, path) in [("list", &[][..]), ("ls", &[]), ("cat", &["data"])] {
+        let full = std::fs::OpenOptions::new().write(true).open("/dev/full").expect("a device");
+        let mut command = Command::new(env!("CARGO_BIN_EXE_apfs"));
+        let o = command.arg(name).arg(&image.0).args(path).stdout(full).output().expect("the tool");
+        let words = String::from_utf8_lossy(&o.stderr).into_owned();
+        assert_eq!(o.status.code(), Some(1), "{name} {o:?}");
+        assert!(words.starts_with("apfs: writing: "), "{name} {words}");
+    }
+}
+
+#[test]
+fn an_image_over_the_bound_is_refused_before_it_is_read() {
+    let image = Image::of("vast", b"");
+    let sparse = std::fs::OpenOptions::new().write(true).open(&image.0).expect("a file");
+    if sparse.set_len((1 << 34) + 1).is_ok() {
+        refused(image.run(&["list"], &[]), 7);
+        refused(image.run(&["ls"], &[]), 7);
+    }
+}
+
+#[test]
+fn a_file_that_cannot_be_read_is_told() {
+    let image = Image(Path::new(env!("CARGO_TARGET_TMPDIR")).join("nowhere.img"));
+    let folder = Image(env!("CARGO_TARGET_TMPDIR").into());
+    for image in [&image, &folder] {
+        let o = image.run(&["list"], &[]);
+        assert!(o.status.code() == Some(1) && o.stderr.starts_with(b"apfs: ") && o.stdout.is_empty(), "{o:?}");
+    }
 }
