@@ -1,11 +1,12 @@
-//! How long calls take, by the port and by the oracle.
+//! How much of the processor's time calls take, by the port and by the oracle.
 
 pub mod calls;
+mod clock;
 pub mod listing;
 pub mod opening;
 
 use std::fmt::Write as _;
-use std::time::{Duration, Instant};
+use std::time::Duration;
 
 const ROUNDS: u128 = 41;
 /// A round makes as many calls as take at least this long by the oracle.
@@ -16,9 +17,9 @@ const ALL: Duration = Duration::from_secs(2);
 type Timed<'f> = &'f mut dyn FnMut();
 
 fn time(times: u32, f: Timed) -> Duration {
-    let start = Instant::now();
+    let start = clock::now();
     (0..times).for_each(|_| f());
-    start.elapsed() / times
+    (clock::now() - start) / times
 }
 
 fn median(mut all: Vec<Duration>) -> Duration {
