@@ -2,6 +2,8 @@
 
 #![cfg(oracle)]
 
+use std::path::Path;
+
 use compare::calls::call::Call;
 use compare::list::trace::LONGEST;
 use compare::opening::run::stick_seed;
@@ -79,6 +81,34 @@ fn a_listing_that_shows_the_layout_is_found() {
     for shown in [&block_size as &dyn Fn(&[u8]) -> u32, &length] {
         let words = found(&|image, text| format!("{text}{}", shown(image)));
         assert!(words.as_ref().is_some_and(|w| w.starts_with("the listing: ")), "{words:?}");
+    }
+}
+
+/// Document 01 names these: one fixed text, each root alone, the image copied out, and every stick refused.
+#[test]
+fn listers_that_tell_nothing_are_found() {
+    let fixed = found(&|_, _| "(volume 1 0 x41\n".into());
+    let roots = found(&|_, text| text.lines().take_while(|l| !l.starts_with("(entry")).collect());
+    for words in [fixed, roots, refusing().failure.map(|f| f.words)] {
+        assert!(words.as_ref().is_some_and(|w| w.ends_with("the listings are the same")), "{words:?}");
+    }
+    let copied = found(&|image, _| image.iter().map(|&b| char::from(b % 128)).collect());
+    assert!(copied.is_some_and(|w| w.starts_with("the listing: ")));
+}
+
+fn refusing() -> Run {
+    Run::over(3, ENOUGH, Ports { list: &|_, _, _| -2, call: &|_, _, _, _| 0 })
+}
+
+#[test]
+fn a_failure_is_told_with_both_images() {
+    let (run, folder) = (refusing(), Path::new(env!("CARGO_TARGET_TMPDIR")));
+    assert!(run.report_failure(folder));
+    let f = run.failure.expect("a failure");
+    for (image, which) in f.images.iter().zip(["a", "b"]) {
+        let file = folder.join(format!("pair-{}-{}-{which}.img", f.seed, f.stick));
+        assert!(std::fs::read(&file).expect("an image") == *image);
+        std::fs::remove_file(file).expect("no more image");
     }
 }
 
