@@ -21,6 +21,7 @@ const END: u8 = 0;
 const TITLE: u8 = 1;
 
 const IMAGE: u8 = 2;
+
 // No file has more records.
 const MOST: u64 = 1000000;
 
@@ -54,18 +55,15 @@ fn gone_through(
             size: r.a as usize,
         };
     }
-    let same = agrees(
-        r,
-        part(
-            image,
-            Span {
-                start: 0,
-                len: t.size,
-            },
-        ),
-        input,
-        out,
+    let size = t.size;
+    let stick = part(
+        image,
+        Span {
+            start: 0,
+            len: size,
+        },
     );
+    let same = agrees(r, stick, input, out);
     counted(t, r, same, kinds)
 }
 

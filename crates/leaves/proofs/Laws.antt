@@ -17,11 +17,6 @@ use Rattle.utf8.specs.Text.{pieceOf, sizeOf}
 use Rattle.utf8.specs.declared.Piece.{Piece}
 use Rattle.utf8.specs.declared.Piece.the-variants.{IllFormed}
 use Rattle.utf8.proofs.Pieces.{size-within}
-use Rattle.lookup.specs.Counted.{Counted}
-use Rattle.volume.specs.Open.{openTold}
-use Rattle.volume.specs.declared.Volume.{Volume}
-use Rattle.volume.specs.declared.VolumeOpened.{VolumeOpened}
-use Rattle.volume.specs.declared.VolumeOpening.{VolumeOpening}
 use Rattle.leaves.specs.Leaves.{refusalIn, headerField, fieldOf, pieceNumber}
 
 module _ (r : Parsed) (a : Answer ObjHeader) (p : parsed r ≡ a) where
@@ -46,11 +41,4 @@ piece-fits b r n p q h =
 pub piece-shown : (b : List ℕ) (r x : Piece) (z : ℕ) → r ≡ pieceOf b → r ≡ x → z ≡ pieceNumber x → z ≡ pieceNumber (pieceOf b)
 piece-shown b r x z p q h = rw (← p, q) h
 
-module _ (r : VolumeOpened) (c : Counted Volume) (p : openTold r ≡ c) where
-  pub volume-taken : (v : Volume) → r .volume ≡ VolumeOpening.Got v → 0 ≡ refusalIn (c .answer)
-  volume-taken v q = rw (← p, q)
-
-  pub volume-refused : (e : Refusal) (z : ℕ) → r .volume ≡ VolumeOpening.No e → z ≡ numberOf e → z ≡ refusalIn (c .answer)
-  volume-refused e z q k = rw (← p, q) k
-
-pub ruleset all = (needs, volume-taken, volume-refused, header-taken, header-refused, header-field, header-none, piece-fits, piece-shown)
+pub ruleset all = (needs, header-taken, header-refused, header-field, header-none, piece-fits, piece-shown)

@@ -4,7 +4,6 @@ mod fields;
 mod names;
 mod objects;
 mod texts;
-mod volumes;
 
 pub use fields::leaf_cstr;
 pub use fields::leaf_number;
@@ -21,4 +20,3 @@ pub use texts::leaf_is_utf8;
 pub use texts::leaf_piece;
 pub use texts::leaf_reads_as;
 pub use texts::leaf_replaced;
-pub use volumes::leaf_volume_refused;

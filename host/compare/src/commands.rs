@@ -85,7 +85,7 @@ pub fn sticks(seed: u64, count: u64) {
 
 pub fn volumes(seed: u64, count: u64) {
     answer::silence_panics();
-    let run = Volumes::over(seed, count);
+    let run = Volumes::over(seed, count, calls_port());
     println!("seed {seed}, {count} sticks");
     for (answer, n) in &run.seen {
         println!("{} {n}", if *answer == 0 { "opened".into() } else { format!("refused with {answer}") });
@@ -98,7 +98,8 @@ pub fn volumes(seed: u64, count: u64) {
     if let Some(e) = &run.failure {
         println!("{e}");
     }
-    finish("volumes", run.failure.is_none() && missing.is_empty(), "all agree");
+    let words = if calls_port().is_some() { "all agree" } else { "the oracle alone was asked" };
+    finish("volumes", run.failure.is_none() && missing.is_empty(), words);
 }
 
 /// Tells what became of images about 2^34 bytes long, where they were asked about.

@@ -19,8 +19,8 @@
 //! ```
 //!
 //! After `rt staticlib apfs`, with `--features apfs`, `sticks` and `open` hold the port's opening
-//! against the oracle's, and with `--features calls` `calls`, `list` and `pairs` do the same of its calls and
-//! its listings; without these features they ask the oracle alone. Timings of both:
+//! against the oracle's, and with `--features calls` `volumes`, `calls`, `list` and `pairs` do the same of its
+//! calls and its listings; without these features they ask the oracle alone. Timings of both:
 //!
 //! ```text
 //! cargo run --profile speed --features calls -p compare -- bench

@@ -21,7 +21,6 @@ extern "C" {
     fn leaf_len_and_hash(name: *const u8, name_len: usize, insensitive: u64) -> u64;
     fn leaf_header(b: *const u8, b_len: usize, field: u64) -> u64;
     fn leaf_header_refused(b: *const u8, b_len: usize) -> u64;
-    fn leaf_volume_refused(image: *const u8, image_len: usize, index: u64) -> u64;
     fn leaf_read_at(image: *const u8, image_len: usize, off: u64, len: usize) -> u64;
 }
 
@@ -97,9 +96,4 @@ pub fn header_refused(b: &[u8]) -> u64 {
 /// 0 where the image has the `len` bytes at `off`, else the refusal's number.
 pub fn read_at(image: &[u8], off: u64, len: usize) -> u64 {
     unsafe { leaf_read_at(image.as_ptr(), image.len(), off, len) }
-}
-
-/// 0 where the volume at `index` opens, else the refusal's number.
-pub fn volume_refused(image: &[u8], index: u64) -> u64 {
-    unsafe { leaf_volume_refused(image.as_ptr(), image.len(), index) }
 }

@@ -7,13 +7,18 @@ use oracle::nx::Container;
 use oracle::probe;
 use sticks::{damage, Stick};
 
+use crate::calls::call::Call;
+use crate::calls::Port;
 use crate::opening::answer::{self, caught, Answer};
 use crate::opening::outside::outside;
 use crate::opening::run::stick_seed;
-use crate::port;
 
 /// How often each stick is damaged.
 const DAMAGES: u64 = 4;
+/// No path: it is refused after opening and before anything in the volume is read, so that a lookup of it tells how
+/// opening went.
+const NOT_UTF8: u8 = 0xff;
+const PATH_NOT_UTF8: i64 = -5;
 
 #[derive(Default)]
 pub struct Volumes {
@@ -24,15 +29,15 @@ pub struct Volumes {
 }
 
 impl Volumes {
-    /// Stops at the first failure.
-    pub fn over(seed: u64, count: u64) -> Volumes {
+    /// Without a port the oracle is asked alone. Stops at the first failure.
+    pub fn over(seed: u64, count: u64, port: Option<Port>) -> Volumes {
         let mut volumes = Volumes::default();
         for i in 0..count {
             let seed = stick_seed(seed, i);
             let image = Stick::from_seed(seed).image;
             for k in 0..=DAMAGES {
                 let b = if k == 0 { image.clone() } else { damage(&image, seed.wrapping_mul(DAMAGES).wrapping_add(k)) };
-                if let Err(e) = volumes.stick(Arc::new(b)) {
+                if let Err(e) = volumes.stick(Arc::new(b), port) {
                     volumes.failure = Some(format!("stick {seed}, damage {k}: {e}"));
                     return volumes;
                 }
@@ -41,16 +46,16 @@ impl Volumes {
         volumes
     }
 
-    fn stick(&mut self, image: Arc<Vec<u8>>) -> Result<(), String> {
+    fn stick(&mut self, image: Arc<Vec<u8>>, port: Option<Port>) -> Result<(), String> {
         if outside(&image).is_some() {
             return Ok(());
         }
         let Ok(Ok(c)) = caught(|| answer::container(&image)) else { return Ok(()) };
         let slots = c.sb.fs_oids.len() as u64;
-        (0..=slots).chain([u64::MAX]).try_for_each(|i| self.volume(&image, &c, i))
+        (0..=slots).chain([u64::MAX]).try_for_each(|i| self.volume(&image, &c, i, port))
     }
 
-    fn volume(&mut self, image: &[u8], c: &Container, i: u64) -> Result<(), String> {
+    fn volume(&mut self, image: &[u8], c: &Container, i: u64, port: Option<Port>) -> Result<(), String> {
         let want = match caught(|| c.volume(i as usize).map(|_| ())) {
             Ok(Ok(())) => 0,
             Ok(Err(e)) => probe::class(&e),
@@ -61,8 +66,9 @@ impl Volumes {
             Err(other) => return Err(format!("volume {i}: {other}")),
         };
         *self.seen.entry(want).or_default() += 1;
-        let got = port::volume_refused(image, i);
-        if got == want {
+        let Some(port) = port else { return Ok(()) };
+        let got = port(image, i, &Call::Lookup { path: vec![NOT_UTF8] }, &mut []);
+        if got == if want == 0 { PATH_NOT_UTF8 } else { -(want as i64) } {
             Ok(())
         } else {
             Err(format!("volume {i}: the oracle answers {want}, the port {got}"))

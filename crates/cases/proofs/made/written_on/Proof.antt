@@ -1,7 +1,7 @@
+-- `made::written_on` meets its contract.
 use Prim.Native.Nat.{_-_, _≤_}
 use mathlib.Core.Path.{_≡_}
 use lib.ListN.{length}
-use native.Mathlib.Omega.{arith}
 use borrow.Author.Needs.{needs}
 use Rattle.cases.proofs.made.written_on.Statement.{statement}
 use Rattle.cases.proofs.made.written_on.Tie as tie

@@ -1,5 +1,5 @@
+-- `tally::print_kinds` meets its contract.
 use Prim.Native.Nat.{_-_, _≤_}
-use native.Mathlib.Omega.{arith}
 use borrow.Author.Needs.{needs}
 use Rattle.cases.proofs.tally.print_kinds.Statement.{statement}
 use Rattle.cases.proofs.tally.print_kinds.Tie as tie
