@@ -60,7 +60,12 @@ fn texts() -> Group {
     let text = format!("(volume 1 0 x41\n{ROOT_LINE}{attributes}(data x)\n{entries})\n)\n");
     let data = "(node 100 2 100 0 0 0 0 0 0 0 0 0 16877 - 4,9000\n(data x00016100)\n)\n)\n)\n)\n";
     let file = format!("(volume 1 0 x41\n{ROOT_LINE}(data x)\n(entry 100 3 8 x64617461\n{data}");
+    // No directory, and yet its entries are read.
+    let mut plain = chain(1);
+    plain.files[0].inode.mode = 0o100_644;
+    let plain_text = chain_text(1).replacen("16877", "33188", 1);
     let cases = vec![
+        listed(plain, Text(plain_text)),
         listed(contents(vec![super::stick::file(ROOT)]), Text(example())),
         listed(c, Text(text)),
         listed(sized(4, vec![stored(0, b"\x00\x01a")]), Text(file)),

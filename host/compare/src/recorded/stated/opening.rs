@@ -163,7 +163,16 @@ fn maps() -> Group {
         let b = changed(b, CHECKPOINT, |b| put32(b, 32, 0));
         changed(&b, SUPERBLOCK, |b| put32(b, 140, n))
     };
+    // An index counted three times round the ring, and maps at a base of their own.
+    let [round, apart] = [false, true].map(|apart| {
+        with(|p| {
+            let c = &mut p.ring.checkpoints[3];
+            (c.apart, c.turns) = (apart, 3);
+        })
+    });
     let cases = vec![
+        opened(round.clone(), text(&round, 100_000, " 1026")),
+        opened(apart.clone(), text(&apart, 100_000, " 1026")),
         opened(count(101), usual()),
         opened(count(102), Refused(2)),
         opened(length(u32::MAX), usual()),

@@ -91,11 +91,20 @@ fn outside() -> Group {
     // Counted blocks that are not in the image.
     let mut counted = plan(sized(8192, far(100)));
     (counted.spare, counted.counted_blocks_present) = (1000, false);
+    // Of the last block all bytes but one.
+    let blocks = (image(sized(8192, far(100))).len() / BLOCK) as u64;
+    let [cut, whole] = [BLOCK - 1, BLOCK].map(|tail| {
+        let mut plan = plan(sized(8192, far(blocks)));
+        (plan.spare, plan.counted_blocks_present, plan.tail) = (1000, false, tail);
+        make(plan).image
+    });
     let both = |number: u64| vec![read(0, 4096, Bytes(repeated(1, 4096))), read(4000, 200, Refused(number))];
     let cases = vec![
         of(8192, far(1 << 30), both(2)),
         of(8192, far(1 << 30), vec![read(4096, 0, Bytes(Vec::new())), nothing(8192, 1)]),
         (make(counted).image, both(1)),
+        (cut, vec![read(4096, 1, Refused(1))]),
+        (whole, vec![read(4096, 1, Answered)]),
     ];
     group("extents past the block count, and past the image", cases)
 }

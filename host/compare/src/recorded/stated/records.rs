@@ -1,7 +1,7 @@
 //! "Records": inodes, entries, attributes and links.
 
 use sticks::contents::{
-    Attribute, Contents, Data, Field, File, Key, Stream, BRIEF_FLAG, LINK_ATTRIBUTE, NAME_FIELD, STREAM_FIELD,
+    Attribute, Contents, Data, Entry, Field, File, Key, Stream, BRIEF_FLAG, LINK_ATTRIBUTE, NAME_FIELD, STREAM_FIELD,
 };
 
 use super::stick::{at_block, contents, embedded, entry, file, image, stored, streamed, FILE, ROOT};
@@ -72,7 +72,15 @@ fn keys() -> Group {
         (image, vec![Stated::call(Call::Entry { id: ROOT, place: 0 }, said)])
     };
     let text = |name: &str| Text(format!("(entry 100 3 8 {name}\n"));
+    let kind = |flags: u16| {
+        let image = image(root(|f| f.entries.push(Entry { flags, ..entry(Key::Hashed, "a", FILE) })));
+        let said = Text(format!("(entry 100 3 {} x61\n", flags & 15));
+        (image, vec![Stated::call(Call::Entry { id: ROOT, place: 0 }, said)])
+    };
     let cases = vec![
+        kind(0),
+        kind(15),
+        kind(0xfff4),
         one(Key::Hashed, "abc", text("x616263")),
         one(Key::Plain, "abc", text("x616263")),
         one(Key::Bare, "abc", text("x616263")),
@@ -82,7 +90,7 @@ fn keys() -> Group {
         one(Key::Hashed, "", text("x")),
         one(Key::Bare, "", text("x")),
     ];
-    group("directory keys by their length, and under 12 bytes", cases)
+    group("directory keys by their length, and under 12 bytes; kinds", cases)
 }
 
 fn places() -> Group {

@@ -57,9 +57,9 @@ fn children() -> Group {
 }
 
 fn layout() -> Group {
-    let laid = |records: u32, length: u16| {
-        changed(&empty(), TREE_ROOT, |b| {
-            put32(b, 36, records);
+    let laid = |image: &[u8], is, length: u16| {
+        changed(image, is, |b| {
+            put32(b, 36, 0);
             put16(b, 42, length);
         })
     };
@@ -68,9 +68,11 @@ fn layout() -> Group {
     let cases = vec![
         (hashed, root(Refused(3))),
         (deep, root(Refused(3))),
-        (laid(0, 4000), root(Refused(4))),
-        (laid(0, 4001), root(Refused(2))),
-        (laid(0, u16::MAX), root(Refused(2))),
+        (laid(&empty(), TREE_ROOT, 4000), root(Refused(4))),
+        (laid(&empty(), TREE_ROOT, 4001), root(Refused(2))),
+        (laid(&empty(), TREE_ROOT, u16::MAX), root(Refused(2))),
+        (laid(&tall(0), TREE_NODE, 4040), root(Refused(4))),
+        (laid(&tall(0), TREE_NODE, 4041), root(Refused(2))),
     ];
     group("hashed nodes, keys that start past the value end", cases)
 }
