@@ -2,6 +2,8 @@
 
 use std::sync::Arc;
 
+use sticks::sums::crc32c;
+
 use crate::calls::call::Call;
 use crate::recorded::asked::{Asked, Question, Told};
 use crate::recorded::file::{answer, END, IMAGE, LONGEST, TITLE};
@@ -16,6 +18,13 @@ pub struct Recorded {
 impl Recorded {
     pub fn tells(&self, told: &Told) -> bool {
         self.answer == answer(&self.question, told)
+    }
+
+    /// Whether a call that gave this result, and left the buffer so, agrees.
+    pub fn holds(&self, result: i64, buffer: &[u8]) -> bool {
+        let (refusal, count, sum) = self.answer;
+        let want = if refusal > 0 { -i64::from(refusal) } else { count.into() };
+        result == want && sum == crc32c(!0, buffer)
     }
 }
 

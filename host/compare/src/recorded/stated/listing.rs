@@ -1,11 +1,11 @@
 //! "The listing (added)".
 
 use sticks::block::put16;
-use sticks::contents::{Contents, Stream, COMPRESSED};
+use sticks::contents::{Contents, Key, Stream, COMPRESSED};
 
 use super::stick::{
-    at_block, changed, contents, directory, embedded, empty, file, image, sized, stored, streamed, ROOT, ROOT_LINE,
-    TREE_ROOT,
+    at_block, changed, contents, directory, embedded, empty, entry, file, image, sized, stored, streamed, ROOT,
+    ROOT_LINE, TREE_ROOT,
 };
 use super::Said::{Refused, Text};
 use super::{group, Group, Said, Stated, ROOM};
@@ -135,12 +135,17 @@ fn order() -> Group {
     faulty.files[0].attributes = vec![streamed("s", 300, 5000)];
     faulty.streams.push(Stream { id: 300, extents: vec![at_block(0, 5000, 1 << 30)] });
     let second = first + ROOT_LINE.len();
+    // Attributes and entries are read after the node's line, and before the first of them is written.
+    let mut broken = contents(vec![file(ROOT)]);
+    broken.files[0].attributes = vec![embedded("n", b"v")];
+    broken.files[0].entries = vec![entry(Key::Wrong, "a", 20)];
     let cases = vec![
         (
             no_root,
             vec![Stated::list(first - 1, Refused(6)), Stated::list(first, Refused(4)), Stated::list(ROOM, Refused(4))],
         ),
         (image(faulty), vec![Stated::list(second - 1, Refused(6)), Stated::list(second, Refused(2))]),
+        (image(broken), vec![Stated::list(second - 1, Refused(6)), Stated::list(second, Refused(2))]),
         (empty(), vec![Stated::list(40, Refused(4)).of_volume(1)]),
         (Vec::new(), vec![Stated::list(40, Refused(1)), Stated::list(0, Refused(1))]),
     ];

@@ -1,6 +1,6 @@
 //! "Reads".
 
-use sticks::contents::{Contents, Extent, COMPRESSED};
+use sticks::contents::{Contents, Extent, Stream, COMPRESSED};
 use sticks::make;
 
 use super::stick::{at_block, contents, file, image, plan, sized, stored, BLOCK, FILE, ROOT};
@@ -41,12 +41,17 @@ fn sizes() -> Group {
         nothing(0, 0),
     ];
     let none = vec![nothing(0, 5), Stated::call(Call::Read { id: 77, offset: 0, length: 5 }, Refused(4))];
+    let mut private = sized(3, Vec::new());
+    private.files[1].inode.private = 555;
+    private.streams.push(Stream { id: 555, extents: vec![stored(0, b"abc")] });
+    let first = Stated::call(Call::Extent { id: FILE, place: 0 }, Answered);
     let cases = vec![
+        (image(private), vec![read(0, 9, Bytes(b"abc".into())), first]),
         of(10, vec![stored(0, b"0123456789abc")], of_ten),
         of(0, vec![stored(0, b"0123456789abc")], vec![nothing(0, 5)]),
         (image(contents(vec![file(ROOT), file(FILE)])), none),
     ];
-    group("reads at and past the end", cases)
+    group("reads at and past the end, by the private id", cases)
 }
 
 fn holes() -> Group {
@@ -101,6 +106,7 @@ fn outside() -> Group {
     let both = |number: u64| vec![read(0, 4096, Bytes(repeated(1, 4096))), read(4000, 200, Refused(number))];
     let cases = vec![
         of(8192, far(1 << 30), both(2)),
+        of(9000, vec![at_block(0, 10, 1 << 30)], vec![read(20, 5, Bytes(repeated(0, 5))), read(9, 1, Refused(2))]),
         of(8192, far(1 << 30), vec![read(4096, 0, Bytes(Vec::new())), nothing(8192, 1)]),
         (make(counted).image, both(1)),
         (cut, vec![read(4096, 1, Refused(1))]),
@@ -144,8 +150,11 @@ fn lists() -> Group {
         at(0, Text(hole.into())).into_room(hole.len()),
         at(0, Refused(6)).into_room(hole.len() - 1),
         at(1, Text("(extent 4096 0 7)\n".into())),
-        at(2, Text(String::new())),
+        at(2, Text("(extent 4096 5 0)\n".into())),
+        at(3, Text(String::new())),
         at(u64::MAX, Text(String::new())),
     ];
-    group("extents by place", vec![of(0, vec![at_block(0, 4096, 0), at_block(4096, 0, 7)], cases)])
+    // A length has 56 bits, and flags above them.
+    let extents = vec![at_block(0, 4096, 0), at_block(4096, 0, 7), at_block(4096, 0xff << 56 | 5, 0)];
+    group("extents by place", vec![of(0, extents, cases)])
 }

@@ -1,10 +1,14 @@
 //! "Records": inodes, entries, attributes and links.
 
+use sticks::block::put16;
 use sticks::contents::{
-    Attribute, Contents, Data, Entry, Field, File, Key, Stream, BRIEF_FLAG, LINK_ATTRIBUTE, NAME_FIELD, STREAM_FIELD,
+    Attribute, Contents, Data, Entry, Extent, Field, File, Key, Stream, BRIEF_FLAG, LINK_ATTRIBUTE, NAME_FIELD,
+    STREAM_FIELD,
 };
 
-use super::stick::{at_block, contents, embedded, entry, file, image, stored, streamed, FILE, ROOT};
+use super::stick::{
+    at_block, changed, contents, embedded, entry, file, image, stored, streamed, value_at, FILE, ROOT, TREE_ROOT,
+};
 use super::Said::{Answered, Refused, Text};
 use super::{group, Group, Said, Stated};
 use crate::calls::call::Call;
@@ -28,14 +32,17 @@ fn field(kind: u8, data: &[u8]) -> Field {
 }
 
 pub fn groups() -> Vec<Group> {
-    vec![values(), links(), fields(), keys(), places(), attributes(), targets(), after_faults()]
+    vec![values(), links(), fields(), keys(), places(), attributes(), streams(), targets(), after_faults()]
 }
 
 fn values() -> Group {
     let short = |n: usize| image(root(|f| f.inode.short = n));
     let mut cases: Vec<_> = [0, 1, 9, 10].into_iter().map(|n| (short(n), of_root(line(0, "-", "-")))).collect();
     cases.extend([11, 92].map(|n| (short(n), of_root(Refused(2)))));
-    group("an inode's value of 92 and of 82 bytes, and shorter", cases)
+    let mut second = file(ROOT);
+    second.inode.links = 5;
+    cases.push((image(contents(vec![file(ROOT), second])), of_root(line(0, "-", "-"))));
+    group("an inode's value of 92 and of 82 bytes, and shorter; two of them", cases)
 }
 
 fn links() -> Group {
@@ -48,6 +55,8 @@ fn fields() -> Group {
     let with =
         |list: &[(u8, &[u8])]| image(root(|f| f.inode.fields = list.iter().map(|(k, d)| field(*k, d)).collect()));
     let (name, stream) = (NAME_FIELD, STREAM_FIELD);
+    // The field is said to have more bytes than follow.
+    let past = |n: u16| changed(&with(&[(name, b"abcdefg\0")]), TREE_ROOT, |b| put16(b, value_at(b, 0) + 98, n));
     let cases = vec![
         (with(&[(name, b"abc\0")]), of_root(line(0, "x616263", "-"))),
         (with(&[(name, b"abc\0"), (name, b"de\0")]), of_root(line(0, "x6465", "-"))),
@@ -61,6 +70,8 @@ fn fields() -> Group {
             of_root(line(0, "x313233343536373839", "7,8")),
         ),
         (with(&[(stream, &sizes(7)[..16])]), of_root(line(0, "-", "7,8"))),
+        (past(8), of_root(line(0, "x61626364656667", "-"))),
+        (past(9), of_root(Refused(2))),
         (with(&[(stream, &sizes(7)[..15])]), of_root(Refused(2))),
     ];
     group("extra fields: stepping, repeats, streams", cases)
@@ -127,6 +138,11 @@ fn attributes() -> Group {
     c.streams.push(Stream { id: 300, extents: vec![stored(0, b"xyz!")] });
     c.streams.push(Stream { id: 301, extents: vec![stored(0, &[7; 4096]), at_block(4096, 4096, 0)] });
     let at = |place: u64, said: Said| Stated::call(Call::Xattr { id: ROOT, place }, said);
+    // More bytes follow than are counted, and fewer.
+    let counted = |n: u16| {
+        let image = image(root(|f| f.attributes.push(embedded("n", b"vw"))));
+        changed(&image, TREE_ROOT, |b| put16(b, value_at(b, 1) + 2, n))
+    };
     let short = "(attr 2 x61 e x00ff)\n";
     let cases = vec![
         at(0, Text(short.into())),
@@ -138,7 +154,29 @@ fn attributes() -> Group {
         at(3, Refused(6)),
         at(4, Text(String::new())),
     ];
-    group("attributes, embedded and of a stream", vec![(image(c), cases)])
+    let fewer = (counted(1), vec![at(0, Text("(attr 2 x6e e x76)\n".into()))]);
+    let more = (counted(3), vec![at(0, Refused(2))]);
+    group("attributes, embedded and of a stream", vec![(image(c), cases), fewer, more])
+}
+
+fn streams() -> Group {
+    let one = |size: u64, extents: Vec<Extent>, said: Said| {
+        let mut c = root(|f| f.attributes.push(streamed("n", 300, size)));
+        c.streams.push(Stream { id: 300, extents });
+        (image(c), vec![Stated::call(Call::Xattr { id: ROOT, place: 0 }, said)])
+    };
+    let text = |hex: &str| Text(format!("(attr 1 x6e s 300 {hex})\n"));
+    let far = |logical: u64| at_block(logical, 10, 1 << 30);
+    let cases = vec![
+        one(8, vec![stored(0, b"abc"), stored(5, b"de")], text("x6162630000646500")),
+        one(8, vec![stored(0, b"abc"), stored(2, b"de")], Refused(2)),
+        one(3, vec![stored(0, b"abc"), far(3)], text("x616263")),
+        one(4, vec![stored(0, b"abc"), far(3)], Refused(2)),
+        one(3, vec![stored(0, b"abc"), stored(1, b"de")], text("x616263")),
+        one(2, Vec::new(), text("x0000")),
+        one(u64::MAX, Vec::new(), Refused(6)),
+    ];
+    group("an attribute's stream: gaps, overlaps, past its size", cases)
 }
 
 fn targets() -> Group {
@@ -158,6 +196,7 @@ fn targets() -> Group {
     let mut streamed = root(|f| f.attributes.push(link(Data::Stream { id: 300, size: 5 }, 1)));
     streamed.streams.push(Stream { id: 300, extents: vec![stored(0, b"a\xe2"), stored(2, b"\x82\xac\xff")] });
     let call = |id: u64, said: Said| vec![Stated::call(Call::Link { id }, said)];
+    let twice = root(|f| f.attributes.extend([b"one", b"two"].map(|b| link(Data::Embedded(b.to_vec()), 2))));
     let cases = vec![
         one(b"to/here\0", "to/here"),
         one(b"to", "to"),
@@ -165,6 +204,7 @@ fn targets() -> Group {
         one(b"", ""),
         one(b"\xe2\x82", "\u{fffd}"),
         (image(streamed), call(ROOT, Text("a\u{20ac}\u{fffd}".into()))),
+        (image(twice), call(ROOT, Text("one".into()))),
         (image(root(|_| {})), call(ROOT, Refused(2))),
         (image(root(|_| {})), call(77, Refused(4))),
     ];

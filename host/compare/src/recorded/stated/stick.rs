@@ -117,6 +117,11 @@ pub fn changed(image: &[u8], is: Is, change: impl Fn(&mut [u8])) -> Vec<u8> {
     out
 }
 
+/// Where the value of a record stands in a root as it is made here.
+pub fn value_at(b: &[u8], record: usize) -> usize {
+    BLOCK - 40 - usize::from(get16(b, 56 + 8 * record + 4))
+}
+
 /// With block 0 changed, its checksum left as it was.
 pub fn with_zero(image: &[u8], change: impl Fn(&mut [u8])) -> Vec<u8> {
     let mut out = image.to_vec();

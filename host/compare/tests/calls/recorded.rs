@@ -1,0 +1,40 @@
+//! Mistakes and slips that the recorded calls of `crates/cases` find.
+
+use compare::calls::check::pattern;
+use compare::recorded::asked::Asked;
+use compare::recorded::read::{decode, Recorded};
+
+use crate::stand::list::{self, Slip};
+use crate::stand::mistake::{self, Mistake};
+use crate::stand::{answer, Last};
+
+fn recorded() -> Vec<Recorded> {
+    let file = concat!(env!("CARGO_MANIFEST_DIR"), "/../../crates/cases/stdin");
+    decode(&std::fs::read(file).expect("the recorded calls")).expect("a whole file")
+}
+
+/// How many calls a stand-in answers otherwise.
+fn differ(records: &[Recorded], m: Mistake, slip: Slip) -> usize {
+    crate::silence_overflows();
+    let last = Last::default();
+    let agrees = |r: &&Recorded| {
+        let (q, mut out) = (&r.question, pattern(r.question.room));
+        let got = match &q.asked {
+            Asked::Open => return true,
+            Asked::Call(call) => answer(&last, &r.image, q.volume, call, &mut out, m),
+            Asked::List => list::answer(&r.image, q.volume, &mut out, slip),
+        };
+        r.holds(got, &out)
+    };
+    records.iter().filter(|r| !agrees(r)).count()
+}
+
+#[test]
+fn every_mistake_is_found() {
+    let records = recorded();
+    assert_eq!(differ(&records, Mistake::None, Slip::None), 0);
+    let missed: Vec<Mistake> = mistake::ALL.into_iter().filter(|&m| differ(&records, m, Slip::None) == 0).collect();
+    assert_eq!(missed, []);
+    let missed: Vec<Slip> = list::ALL.into_iter().filter(|&s| differ(&records, Mistake::None, s) == 0).collect();
+    assert_eq!(missed, []);
+}
