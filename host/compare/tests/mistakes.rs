@@ -3,7 +3,10 @@
 
 #![cfg(oracle)]
 
+use compare::calls::check::pattern;
 use compare::opening::run::Run;
+use compare::recorded::asked::Asked;
+use compare::recorded::read::{of_cases, Recorded};
 use sticks::block::{get16, get32, get64, is_sealed};
 
 const ENOUGH: u64 = 1500;
@@ -311,5 +314,19 @@ const ALL: [Mistake; 44] = [
 #[test]
 fn every_mistake_is_found() {
     let missed: Vec<Mistake> = ALL.into_iter().filter(|&m| run(m, ENOUGH).failure.is_none()).collect();
+    assert_eq!(missed, []);
+}
+
+#[test]
+fn every_mistake_is_found_by_the_recorded_calls() {
+    let mut records = of_cases().expect("a whole file");
+    records.retain(|r| r.question.asked == Asked::Open);
+    let agrees = |r: &Recorded, m: Mistake| {
+        let mut out = pattern(r.question.room);
+        r.holds(apfs_open(&r.image, &mut out, m), &out)
+    };
+    let all_agree = |m: Mistake| records.iter().all(|r| agrees(r, m));
+    assert!(all_agree(Mistake::None));
+    let missed: Vec<Mistake> = ALL.into_iter().filter(|&m| all_agree(m)).collect();
     assert_eq!(missed, []);
 }

@@ -6,11 +6,10 @@ use std::collections::BTreeSet;
 
 use compare::recorded::asked::told;
 use compare::recorded::file::File;
-use compare::recorded::read::{decode, Recorded};
+use compare::recorded::read::{decode, of_cases, Recorded};
 
 fn recorded() -> Vec<Recorded> {
-    let file = concat!(env!("CARGO_MANIFEST_DIR"), "/../../crates/cases/stdin");
-    decode(&std::fs::read(file).expect("the recorded calls")).expect("a whole file")
+    of_cases().expect("a whole file")
 }
 
 #[test]

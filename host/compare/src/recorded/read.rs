@@ -95,3 +95,9 @@ pub fn decode(mut rest: &[u8]) -> Result<Vec<Recorded>, String> {
         }
     }
 }
+
+/// The file that `crates/cases` replays.
+pub fn of_cases() -> Result<Vec<Recorded>, String> {
+    let file = concat!(env!("CARGO_MANIFEST_DIR"), "/../../crates/cases/stdin");
+    decode(&std::fs::read(file).map_err(|e| format!("{file}: {e}"))?)
+}

@@ -2,16 +2,11 @@
 
 use compare::calls::check::pattern;
 use compare::recorded::asked::Asked;
-use compare::recorded::read::{decode, Recorded};
+use compare::recorded::read::{of_cases, Recorded};
 
 use crate::stand::list::{self, Slip};
 use crate::stand::mistake::{self, Mistake};
 use crate::stand::{answer, Last};
-
-fn recorded() -> Vec<Recorded> {
-    let file = concat!(env!("CARGO_MANIFEST_DIR"), "/../../crates/cases/stdin");
-    decode(&std::fs::read(file).expect("the recorded calls")).expect("a whole file")
-}
 
 /// How many calls a stand-in answers otherwise.
 fn differ(records: &[Recorded], m: Mistake, slip: Slip) -> usize {
@@ -31,7 +26,7 @@ fn differ(records: &[Recorded], m: Mistake, slip: Slip) -> usize {
 
 #[test]
 fn every_mistake_is_found() {
-    let records = recorded();
+    let records = of_cases().expect("a whole file");
     assert_eq!(differ(&records, Mistake::None, Slip::None), 0);
     let missed: Vec<Mistake> = mistake::ALL.into_iter().filter(|&m| differ(&records, m, Slip::None) == 0).collect();
     assert_eq!(missed, []);

@@ -1,12 +1,13 @@
 //! "Opening, in order".
 
-use sticks::block::{put32, put64};
+use sticks::block::{get16, put16, put32, put64};
 use sticks::checkpoint::Fault;
 use sticks::plan::Odd;
 use sticks::{make, Plan};
 
 use super::stick::{
-    changed, contents, cut, empty, file, plan, with_zero, BLOCK, CHECKPOINT, OBJECT_MAP, ROOT, SUPERBLOCK,
+    changed, contents, cut, empty, file, plan, unsealed, with_zero, BLOCK, CHECKPOINT, MAP_ROOT, OBJECT_MAP, ROOT,
+    SUPERBLOCK,
 };
 use super::Said::{Answered, Refused, Text};
 use super::{group, Group, Said, Stated, ROOM};
@@ -44,7 +45,7 @@ fn text(image: &[u8], xid: u64, volumes: &str) -> Said {
 }
 
 pub fn groups() -> Vec<Group> {
-    vec![start(), sizes(), area(), candidates(), spoiled(), maps(), features(), slots(), buffers()]
+    vec![start(), sizes(), area(), candidates(), spoiled(), maps(), features(), object_maps(), slots(), buffers()]
 }
 
 fn start() -> Group {
@@ -200,6 +201,31 @@ fn features() -> Group {
         opened(cut(&whole, whole.len() - BLOCK), Refused(1)),
     ];
     group("version 1, Fusion, then the object map", cases)
+}
+
+fn object_maps() -> Group {
+    let whole = empty();
+    let usual = || text(&whole, 100_000, " 1026");
+    let root = |change: fn(&mut [u8])| changed(&whole, MAP_ROOT, change);
+    let info = BLOCK - 40;
+    let sized = |at: usize, n: u32| changed(&whole, MAP_ROOT, |b| put32(b, info + at, n));
+    let cases = vec![
+        opened(unsealed(&whole, OBJECT_MAP), Refused(2)),
+        opened(unsealed(&whole, MAP_ROOT), Refused(2)),
+        opened(changed(&whole, OBJECT_MAP, |b| put32(b, 40, 0x4000_0003)), usual()),
+        opened(changed(&whole, OBJECT_MAP, |b| put32(b, 40, 2)), Refused(3)),
+        opened(root(|b| put16(b, 32, get16(b, 32) | 8)), Refused(3)),
+        opened(root(|b| put32(b, 32, u32::from(get16(b, 32)) | 8 | 33 << 16)), Refused(3)),
+        opened(root(|b| put16(b, 32, get16(b, 32) & !1)), Refused(2)),
+        opened(root(|b| put16(b, 34, 32)), usual()),
+        opened(root(|b| put16(b, 34, 33)), Refused(2)),
+        opened(root(|b| put16(b, 42, 4000)), usual()),
+        opened(root(|b| put16(b, 42, 4001)), Refused(2)),
+        opened(sized(0, 0), Refused(2)),
+        opened(sized(8, 15), Refused(2)),
+        opened(sized(12, 17), Refused(2)),
+    ];
+    group("an object map and its root", cases)
 }
 
 fn slots() -> Group {

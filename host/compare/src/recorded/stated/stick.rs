@@ -104,6 +104,16 @@ pub const VOLUME: Is = |b| kind(b) == FS;
 pub const TREE_ROOT: Is = |b| kind(b) == BTREE && get32(b, 28) == FSTREE && get16(b, 32) & 1 == 1;
 pub const TREE_NODE: Is = |b| kind(b) == BTREE_NODE && get32(b, 28) == FSTREE;
 
+/// The root of an object map's tree.
+pub const MAP_ROOT: Is = |b| kind(b) == BTREE && get32(b, 28) == OMAP && get16(b, 32) & 1 == 1;
+
+/// With the checksum of each block of a kind wrong.
+pub fn unsealed(image: &[u8], is: Is) -> Vec<u8> {
+    let mut out = image.to_vec();
+    out.chunks_exact_mut(BLOCK).skip(1).filter(|b| is(b)).for_each(|b| b[0] ^= 1);
+    out
+}
+
 /// With each block of a kind changed, their checksums right again. Block 0 is left alone.
 pub fn changed(image: &[u8], is: Is, change: impl Fn(&mut [u8])) -> Vec<u8> {
     let mut out = image.to_vec();
