@@ -140,4 +140,4 @@ pub ruleset zeros = (laws.all, stopped, zeros-end, zeros-next)
 
 pub ruleset pours = (laws.all, zeros-taken, part-taken, step-none, step-some)
 
-pub ruleset pouring = (laws.all, pour-start, pour-end, pour-refused, pour-no, pour-next, pour-done)
+pub ruleset pouring = (laws.all, stopped, pour-start, pour-end, pour-refused, pour-no, pour-next, pour-done)

@@ -7,6 +7,7 @@ use bytes::Span;
 use bytes::part;
 use cursor::first;
 use cursor::next;
+use error::Refusal;
 use files::block_size;
 use files::smaller;
 use lists::search;
@@ -29,7 +30,7 @@ ghost use Rattle.streams.specs.Step.{stepBytes};
 ghost use Rattle.streams.specs.Streams.{streamBytes};
 
 // n zero bytes.
-fn put_zeros(out: &mut [u8], room: usize, p: Position, n: u64) -> Position
+fn write_zeros(out: &mut [u8], room: usize, p: Position, n: u64) -> Position
     ensures { λ r. ⌜ outputOf r (now (out .exit)) ≡ puts room (pairs (replicate n 0) []) (outputOf p (now (out .entry))) ⌝ }
 {
     let mut q = p;
@@ -44,6 +45,21 @@ fn put_zeros(out: &mut [u8], room: usize, p: Position, n: u64) -> Position
         }
     }
     q
+}
+
+// Zeros that pass the room are refused before one is written: a size may lie far past any buffer.
+fn put_zeros(out: &mut [u8], room: usize, p: Position, n: u64) -> Position
+    ensures { λ r. ⌜ outputOf r (now (out .exit)) ≡ puts room (pairs (replicate n 0) []) (outputOf p (now (out .entry))) ⌝ }
+{
+    match p {
+        Position::No(e) => Position::No(e),
+        Position::At(_) => {
+            if room as u64 / 2 < n {
+                return Position::No(Refusal::BufferTooShort);
+            }
+            write_zeros(out, room, p, n)
+        }
+    }
 }
 
 // Where block p begins in the image, or its end.
@@ -120,6 +136,9 @@ pub fn put_stream_hex(
     let mut pos: u64 = 0;
     let mut s = first(image, q, nodes);
     loop {
+        if let Position::No(w) = o {
+            return Position::No(w);
+        }
         let at = s.found;
         match at {
             Found::End => return put_zeros(out, room, o, less(size, pos)),

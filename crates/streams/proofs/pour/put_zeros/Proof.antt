@@ -1,34 +1,16 @@
-use mathlib.Core.Path.{_≡_}
-use mathlib.Core.List.{[]}
-use lib.ListN.{length, replicate}
-use Rattle.text.specs.Output.{outputOf, puts}
-use Rattle.text.specs.Words.{pairs}
 use borrow.Author.Needs.{needs}
-use Rattle.streams.proofs.Pouring.{zeros}
+use Rattle.streams.proofs.TooLong.{long}
 use Rattle.streams.proofs.pour.put_zeros.Statement.{statement}
 use Rattle.streams.proofs.pour.put_zeros.Tie as tie
-
-abbrev Inv-loop : tie.InvT-loop
-Inv-loop out₀ room n q₀ left₀ t8 out q left = (puts room (pairs (replicate left 0) []) (outputOf q out) ≡ puts room (pairs (replicate n 0) []) (outputOf q₀ out₀)) × (length out ≡ length out₀)
-
-abbrev μ-loop : tie.MeasureT-loop
-μ-loop out₀ room n q₀ left₀ t8 out q left = left
 
 pub put-zeros-spec : {M : Type 1} → statement M
 put-zeros-spec =
     tie.close
     (tie.spec
-    Inv-loop
-    μ-loop
-    (λ c. search zeros)
-    (λ c. search zeros)
-    (λ c. search zeros)
-    (λ c. search zeros)
-    (λ c. search zeros)
-    (λ c. search zeros)
+    (λ c. search needs)
+    (λ c. search needs)
+    (λ c. search long)
     (λ c κs. search needs)
-    (λ c. search zeros)
-    (λ c. search zeros)
-    (λ c. search zeros)
-    (λ c. search zeros)
-    (λ c. search zeros))
+    (λ c. search long)
+    (λ c. search needs)
+    (λ c. search needs))
