@@ -11,7 +11,7 @@ use Rattle.volume.specs.Open.{volumeOfImage}
 use Rattle.volume.specs.declared.Volume.{Volume}
 use Rattle.records.specs.declared.directory.Entry.{Entry}
 use Rattle.records.specs.declared.attribute.Attribute.{Attribute}
-use Rattle.records.specs.declared.inode.Inode.{Inode}
+use Rattle.inode_record.specs.declared.inode.Inode.{Inode}
 use Rattle.lists.specs.Lists.{placed, elementAt, entriesOf, attributesOf, inodeOf}
 use Rattle.files.specs.File.{readFile}
 use Rattle.links.specs.Link.{contentsOf}

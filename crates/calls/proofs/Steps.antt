@@ -12,8 +12,8 @@ use Rattle.volume.specs.Open.{openTold}
 use Rattle.volume.specs.declared.Volume.{Volume}
 use Rattle.volume.specs.declared.VolumeOpened.{VolumeOpened}
 use Rattle.volume.specs.declared.VolumeOpening.{VolumeOpening}
-use Rattle.records.specs.declared.inode.Inode.{Inode}
-use Rattle.records.specs.declared.inode.InodeRead.{InodeRead}
+use Rattle.inode_record.specs.declared.inode.Inode.{Inode}
+use Rattle.inode_record.specs.declared.inode.InodeRead.{InodeRead}
 use Rattle.lists.specs.Told.{inodeFound}
 use Rattle.lists.specs.declared.inodes.InodeFound.{InodeFound}
 use Rattle.calls.specs.Filled.{Filled, filledBy, filledAt, Answered, answered}

@@ -19,7 +19,7 @@ use Rattle.volume.specs.declared.Volume.{Volume}
 use Rattle.records.specs.Extent.{extentTold, extentAt}
 use Rattle.records.specs.declared.extent.Extent.{Extent}
 use Rattle.records.specs.declared.extent.ExtentRead.{ExtentRead}
-use Rattle.records.specs.declared.inode.Inode.{Inode}
+use Rattle.inode_record.specs.declared.inode.Inode.{Inode}
 use Rattle.lists.specs.Lists.{searchOf, listOf}
 use Rattle.lists.proofs.Reading.{reading, list-start, list-end, list-next}
 use Rattle.lists.proofs.Turns as list-turns

@@ -7,7 +7,7 @@ use Rattle.lookup.specs.Counted.{Counted}
 use Rattle.volume.specs.declared.Volume.{Volume}
 use Rattle.records.specs.declared.attribute.Attribute.{Attribute}
 use Rattle.records.specs.declared.directory.Entry.{Entry}
-use Rattle.records.specs.declared.inode.Inode.{Inode}
+use Rattle.inode_record.specs.declared.inode.Inode.{Inode}
 use Rattle.lists.specs.Lists.{inodeOf, entriesOf, attributesOf}
 use Rattle.files.specs.File.{readFile, readWhole}
 use Rattle.links.specs.Link.{contentsOf}

@@ -36,7 +36,7 @@ use Rattle.records.specs.Extent.{extentAt}
 use Rattle.records.specs.declared.attribute.Attribute.{Attribute}
 use Rattle.records.specs.declared.attribute.AttributeData.{AttributeData}
 use Rattle.records.specs.declared.attribute.AttributeData.the-variants.{Embedded, Stream}
-use Rattle.records.specs.declared.inode.Inode.{Inode}
+use Rattle.inode_record.specs.declared.inode.Inode.{Inode}
 use Rattle.lists.specs.Lists.{searchOf, listOf, entriesOf, attributesOf, extentsOf, inodeMet, inodeOf}
 use Rattle.files.specs.Read.{diskOf, readAt, readAll}
 use Rattle.files.specs.Stream.{stream}

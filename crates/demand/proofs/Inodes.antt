@@ -23,12 +23,12 @@ use Rattle.btree.specs.Entries.{valueOf}
 use Rattle.btree.specs.Scan.{Met, at, none, nth, scanOf}
 use Rattle.btree.specs.declared.entries.Place.{Place}
 use Rattle.volume.specs.declared.Volume.{Volume}
-use Rattle.records.specs.Fields.{streamField, fieldIn, laterStream, mergedOf, fieldAt, nextOff, fieldsFrom, fieldsIn}
-use Rattle.records.specs.Inode.{idsIn, timesIn, ownerIn, inodeIn, inodeAt}
-use Rattle.records.specs.declared.fields.Fields.{Fields}
-use Rattle.records.specs.declared.fields.StreamField.{StreamField}
-use Rattle.records.specs.declared.fields.StreamField.the-variants as stream
-use Rattle.records.specs.declared.inode.Inode.{Inode}
+use Rattle.inode_record.specs.Fields.{streamField, fieldIn, laterStream, mergedOf, fieldAt, nextOff, fieldsFrom, fieldsIn}
+use Rattle.inode_record.specs.Inode.{idsIn, timesIn, ownerIn, inodeIn, inodeAt}
+use Rattle.inode_record.specs.declared.fields.Fields.{Fields}
+use Rattle.inode_record.specs.declared.fields.StreamField.{StreamField}
+use Rattle.inode_record.specs.declared.fields.StreamField.the-variants as stream
+use Rattle.inode_record.specs.declared.inode.Inode.{Inode}
 use Rattle.lists.specs.Lists.{searchOf, inodeMet, inodeOf}
 use Rattle.files.specs.File.{streamSize, sizeOf}
 use Rattle.files.proofs.Verdicts.{le-or-gt}

@@ -15,7 +15,7 @@ use Rattle.nx.specs.Open.{openAt}
 use Rattle.volume.specs.Open.{volumeOpen, volumeOfImage}
 use Rattle.volume.specs.declared.Volume.{Volume}
 use Rattle.records.specs.declared.directory.Entry.{Entry}
-use Rattle.records.specs.declared.inode.Inode.{Inode}
+use Rattle.inode_record.specs.declared.inode.Inode.{Inode}
 use Rattle.lists.specs.Lists.{entriesOf, inodeOf}
 use Rattle.paths.specs.Parts.{partsOf}
 use Rattle.paths.specs.Names.{ruleOf}

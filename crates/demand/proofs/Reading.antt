@@ -12,7 +12,7 @@ use Rattle.error.proofs.Laws.{eq-cases, bound}
 use Rattle.lookup.specs.Counted.{Counted, after, from, onto}
 use Rattle.volume.specs.declared.Volume.{Volume}
 use Rattle.records.specs.declared.extent.Extent.{Extent}
-use Rattle.records.specs.declared.inode.Inode.{Inode}
+use Rattle.inode_record.specs.declared.inode.Inode.{Inode}
 use Rattle.lists.specs.Lists.{inodeOf, extentsOf}
 use Rattle.files.specs.Read.{diskOf, end, chain, readAt, readAll}
 use Rattle.files.specs.File.{packed, sizeOf, readFile, readWhole}

@@ -12,7 +12,7 @@ use Rattle.text.specs.declared.Position.the-variants.{No}
 use Rattle.volume.specs.declared.Volume.{Volume}
 use Rattle.records.specs.declared.directory.Entry.{Entry}
 use Rattle.records.specs.declared.extent.Extent.{Extent}
-use Rattle.records.specs.declared.inode.Inode.{Inode}
+use Rattle.inode_record.specs.declared.inode.Inode.{Inode}
 use Rattle.lists.specs.Lists.{placed, extentsOf}
 use Rattle.lists.specs.Told.{entryFound, extentFound}
 use Rattle.lists.specs.declared.entries.EntryFound.{EntryFound}

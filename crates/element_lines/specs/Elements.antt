@@ -9,7 +9,7 @@ use Rattle.lookup.specs.Counted.{Counted, after, onto}
 use Rattle.volume.specs.declared.Volume.{Volume}
 use Rattle.records.specs.declared.directory.Entry.{Entry}
 use Rattle.records.specs.declared.extent.Extent.{Extent}
-use Rattle.records.specs.declared.inode.Inode.{Inode}
+use Rattle.inode_record.specs.declared.inode.Inode.{Inode}
 use Rattle.lists.specs.Lists.{placed, entriesOf, extentsOf, inodeOf}
 use Rattle.paths.specs.Lookup.{lookupPath}
 use Rattle.lines.specs.Shown.{inodeShown, entryShown}

@@ -1,9 +1,9 @@
 // The line of the inode that a path leads to.
+use inode_record::Inode;
+use inode_record::InodeRead;
 use lines::put_node_line;
 use obj::Reader;
 use paths::lookup_path;
-use records::Inode;
-use records::InodeRead;
 use text::Position;
 use volume::Volume;
 use volume::VolumeOpening;

@@ -1,12 +1,12 @@
 // The line of a file's extent, by place.
 use error::Refusal;
+use inode_record::Inode;
+use inode_record::InodeRead;
 use lines::put_extent_line;
 use lists::ExtentAt;
 use lists::extent_at;
 use lists::inode;
 use records::Extent;
-use records::Inode;
-use records::InodeRead;
 use text::Position;
 use volume::Volume;
 use volume::VolumeOpening;

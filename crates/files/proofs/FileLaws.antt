@@ -18,7 +18,7 @@ use Rattle.cursor.specs.Left.{runOf}
 use Rattle.volume.specs.declared.Volume.{Volume}
 use Rattle.records.specs.Extent.{extentAt}
 use Rattle.records.specs.declared.extent.Extent.{Extent}
-use Rattle.records.specs.declared.inode.Inode.{Inode}
+use Rattle.inode_record.specs.declared.inode.Inode.{Inode}
 use Rattle.lists.specs.Lists.{listOf, extentsOf, searchOf}
 use Rattle.calls.specs.Filled.{Filled, answered}
 use Rattle.calls.proofs.Filling.{filled-fits, filled-nothing}

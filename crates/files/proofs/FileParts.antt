@@ -10,7 +10,7 @@ use Rattle.error.proofs.Laws.{same, other, eq-cases}
 use Rattle.lookup.specs.Counted.{Counted, after, from}
 use Rattle.volume.specs.declared.Volume.{Volume}
 use Rattle.records.specs.declared.extent.Extent.{Extent}
-use Rattle.records.specs.declared.inode.Inode.{Inode}
+use Rattle.inode_record.specs.declared.inode.Inode.{Inode}
 use Rattle.lists.specs.Lists.{extentsOf}
 use Rattle.files.specs.Read.{diskOf, readAt, readAll}
 use Rattle.files.specs.File.{packed, sizeOf, readFile, readWhole}

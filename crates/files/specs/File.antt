@@ -9,9 +9,9 @@ use Rattle.btree.specs.Scan.{scanOf}
 use Rattle.btree.specs.declared.entries.Search.{Search}
 use Rattle.volume.specs.declared.Volume.{Volume}
 use Rattle.records.specs.Extent.{extentAt}
-use Rattle.records.specs.declared.inode.Inode.{Inode}
-use Rattle.records.specs.declared.fields.StreamField.{StreamField}
-use Rattle.records.specs.declared.fields.StreamField.the-variants as stream
+use Rattle.inode_record.specs.declared.inode.Inode.{Inode}
+use Rattle.inode_record.specs.declared.fields.StreamField.{StreamField}
+use Rattle.inode_record.specs.declared.fields.StreamField.the-variants as stream
 use Rattle.lists.specs.Lists.{listOf, extentsOf}
 use Rattle.calls.specs.Filled.{Answered}
 use Rattle.files.specs.Read.{diskOf, readAt, readAll}

@@ -16,7 +16,7 @@ use Rattle.volume.specs.declared.Volume.{Volume}
 use Rattle.records.specs.Attribute.{attributeAt}
 use Rattle.records.specs.declared.directory.Entry.{Entry}
 use Rattle.records.specs.declared.attribute.Attribute.{Attribute}
-use Rattle.records.specs.declared.inode.Inode.{Inode}
+use Rattle.inode_record.specs.declared.inode.Inode.{Inode}
 use Rattle.lists.specs.Lists.{searchOf, elementAt, placed, attributesOf, entriesOf}
 use Rattle.lists.specs.Told.{entryFound, attributeFound}
 use Rattle.lists.specs.declared.entries.EntryFound.{EntryFound}

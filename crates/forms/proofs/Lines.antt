@@ -20,7 +20,7 @@ use Rattle.records.specs.declared.attribute.Attribute.{Attribute}
 use Rattle.records.specs.declared.attribute.AttributeData.{AttributeData}
 use Rattle.records.specs.declared.attribute.AttributeData.the-variants.{Embedded, Stream}
 use Rattle.records.specs.declared.attribute.StreamData.{StreamData}
-use Rattle.records.specs.declared.inode.Inode.{Inode}
+use Rattle.inode_record.specs.declared.inode.Inode.{Inode}
 use Rattle.files.specs.File.{packed, sizeOf}
 use Rattle.files.specs.Ruling.{ruled}
 use Rattle.files.specs.declared.verdict.Ruling.{Ruling}

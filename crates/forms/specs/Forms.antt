@@ -5,7 +5,7 @@ use Rattle.error.specs.Answer.{Answer, got, no, _>>=_, ifEq}
 use Rattle.volume.specs.declared.Volume.{Volume}
 use Rattle.records.specs.declared.attribute.Attribute.{Attribute}
 use Rattle.records.specs.declared.attribute.StreamData.{StreamData}
-use Rattle.records.specs.declared.inode.Inode.{Inode}
+use Rattle.inode_record.specs.declared.inode.Inode.{Inode}
 use Rattle.lists.specs.Lists.{attributesOf, entriesOf}
 use Rattle.files.specs.Verdict.{Verdict, fine}
 use Rattle.files.specs.File.{packed}

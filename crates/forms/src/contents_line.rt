@@ -3,7 +3,7 @@ use crate::refusing::refuse;
 use contents::settle_whole;
 use files::Ruling;
 use files::size_of;
-use records::Inode;
+use inode_record::Inode;
 use streams::put_stream_hex;
 use text::Position;
 use text::put_all;

@@ -2,12 +2,12 @@
 use crate::attributes::put_attributes;
 use crate::contents_line::put_data;
 use crate::refusing::refuse;
+use inode_record::Inode;
 use lines::put_node_line;
 use lists::AttributeAt;
 use lists::EntryAt;
 use lists::attribute_at;
 use lists::entry_at;
-use records::Inode;
 use text::Position;
 use volume::Volume;
 ghost use mathlib.Core.Path.{_≡_};

@@ -9,9 +9,9 @@ use Rattle.text.specs.Words.{ascii, digits, signed, pairs, bytes, bytes?, two?,
 use Rattle.text.proofs.Digits.{digits-append, signed-append, pairs-append}
 use Rattle.obj.specs.declared.reader.Reader.{Reader}
 use Rattle.records.specs.declared.extent.Extent.{Extent}
-use Rattle.records.specs.declared.inode.Inode.{Inode}
-use Rattle.records.specs.declared.inode.Times.{Times}
-use Rattle.records.specs.declared.inode.Owner.{Owner}
+use Rattle.inode_record.specs.declared.inode.Inode.{Inode}
+use Rattle.inode_record.specs.declared.inode.Times.{Times}
+use Rattle.inode_record.specs.declared.inode.Owner.{Owner}
 use Rattle.lines.specs.Shown.{InodeShown, EntryShown, Form, embedded, streamed, AttributeShown, Contents, packed, plain, nameShown, streamShown, inodeShown}
 use Rattle.lines.specs.Lines.{bit, volumeLine, nodeLine, formText, attributeLine, contentsLine, entryLine, extentLine, close, formHead, attributeHead}
 use Rattle.lines.specs.Pieces.{timeWords, ownerWords, nodeHead}

@@ -14,19 +14,19 @@ use Rattle.bytes.specs.declared.Span.{Span}
 use Rattle.obj.specs.declared.reader.Reader.{Reader}
 use Rattle.btree.specs.declared.entries.Place.{Place}
 use Rattle.records.specs.Attribute.{attributeName}
-use Rattle.records.specs.Inode.{inodeName}
+use Rattle.inode_record.specs.Inode.{inodeName}
 use Rattle.records.specs.declared.attribute.Attribute.{Attribute}
 use Rattle.records.specs.declared.attribute.AttributeData.{AttributeData}
 use Rattle.records.specs.declared.attribute.AttributeData.the-variants as contents
 use Rattle.records.specs.declared.attribute.StreamData.{StreamData}
-use Rattle.records.specs.declared.fields.Dstream.{Dstream}
-use Rattle.records.specs.declared.fields.NameField.{NameField}
-use Rattle.records.specs.declared.fields.NameField.the-variants as name
-use Rattle.records.specs.declared.fields.StreamField.{StreamField}
-use Rattle.records.specs.declared.fields.StreamField.the-variants as stream
-use Rattle.records.specs.declared.inode.Inode.{Inode}
-use Rattle.records.specs.declared.inode.Times.{Times}
-use Rattle.records.specs.declared.inode.Owner.{Owner}
+use Rattle.inode_record.specs.declared.fields.Dstream.{Dstream}
+use Rattle.inode_record.specs.declared.fields.NameField.{NameField}
+use Rattle.inode_record.specs.declared.fields.NameField.the-variants as name
+use Rattle.inode_record.specs.declared.fields.StreamField.{StreamField}
+use Rattle.inode_record.specs.declared.fields.StreamField.the-variants as stream
+use Rattle.inode_record.specs.declared.inode.Inode.{Inode}
+use Rattle.inode_record.specs.declared.inode.Times.{Times}
+use Rattle.inode_record.specs.declared.inode.Owner.{Owner}
 use Rattle.lines.specs.Shown.{Form, nameShown, streamShown, inodeShown, formShown, attributeShown}
 use Rattle.lines.specs.Lines.{bit, nodeLine, attributeLine, formHead, attributeHead}
 use Rattle.lines.specs.Pieces.{timeWords, ownerWords, nodeHead}

@@ -2,9 +2,9 @@
 use Prim.Native.Nat.{ℕ}
 use mathlib.Core.List.{List, [], _∷_}
 use Rattle.text.specs.Words.{ascii, digits, signed, words}
-use Rattle.records.specs.declared.inode.Inode.{Inode}
-use Rattle.records.specs.declared.inode.Times.{Times}
-use Rattle.records.specs.declared.inode.Owner.{Owner}
+use Rattle.inode_record.specs.declared.inode.Inode.{Inode}
+use Rattle.inode_record.specs.declared.inode.Times.{Times}
+use Rattle.inode_record.specs.declared.inode.Owner.{Owner}
 
 -- `CREATE MOD CHANGE ACCESS`
 unfoldable pub timeWords : Times → List ℕ → List ℕ

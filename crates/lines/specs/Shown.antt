@@ -9,16 +9,16 @@ use Rattle.obj.specs.declared.reader.Reader.{Reader}
 use Rattle.btree.specs.declared.entries.Place.{Place}
 use Rattle.records.specs.Attribute.{attributeName}
 use Rattle.records.specs.Directory.{entryName}
-use Rattle.records.specs.Inode.{inodeName}
+use Rattle.inode_record.specs.Inode.{inodeName}
 use Rattle.records.specs.declared.attribute.Attribute.{Attribute}
 use Rattle.records.specs.declared.attribute.AttributeData.{AttributeData}
 use Rattle.records.specs.declared.attribute.AttributeData.the-variants.{Embedded, Stream}
 use Rattle.records.specs.declared.directory.Entry.{Entry}
-use Rattle.records.specs.declared.fields.NameField.{NameField}
-use Rattle.records.specs.declared.fields.NameField.the-variants as name
-use Rattle.records.specs.declared.fields.StreamField.{StreamField}
-use Rattle.records.specs.declared.fields.StreamField.the-variants as stream
-use Rattle.records.specs.declared.inode.Inode.{Inode}
+use Rattle.inode_record.specs.declared.fields.NameField.{NameField}
+use Rattle.inode_record.specs.declared.fields.NameField.the-variants as name
+use Rattle.inode_record.specs.declared.fields.StreamField.{StreamField}
+use Rattle.inode_record.specs.declared.fields.StreamField.the-variants as stream
+use Rattle.inode_record.specs.declared.inode.Inode.{Inode}
 
 -- "fields of `Inode` in the Rust's order": `own` is PRIVATE, `label` NAME
 pub record InodeShown : Type 0 where

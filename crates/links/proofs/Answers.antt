@@ -8,7 +8,7 @@ use Rattle.error.specs.declared.Refusal.{Refusal}
 use Rattle.error.specs.declared.Refusal.the-variants.{Corrupt}
 use Rattle.volume.specs.declared.Volume.{Volume}
 use Rattle.records.specs.declared.attribute.Attribute.{Attribute}
-use Rattle.records.specs.declared.inode.Inode.{Inode}
+use Rattle.inode_record.specs.declared.inode.Inode.{Inode}
 use Rattle.lists.specs.Told.{attributeFound}
 use Rattle.lists.specs.declared.attributes.AttributeAt.{AttributeAt}
 use Rattle.lists.specs.declared.attributes.AttributeFound.{AttributeFound}

@@ -16,7 +16,7 @@ use Rattle.records.specs.Attribute.{attributeBytes}
 use Rattle.records.specs.declared.attribute.Attribute.{Attribute}
 use Rattle.records.specs.declared.attribute.AttributeData.{AttributeData}
 use Rattle.records.specs.declared.attribute.AttributeData.the-variants.{Embedded, Stream}
-use Rattle.records.specs.declared.inode.Inode.{Inode}
+use Rattle.inode_record.specs.declared.inode.Inode.{Inode}
 use Rattle.streams.specs.Streams.{streamOf}
 use Rattle.calls.specs.Filled.{Answered}
 use Rattle.links.specs.Named.{attributeNamed}

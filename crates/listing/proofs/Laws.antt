@@ -17,11 +17,11 @@ use Rattle.btree.proofs.Places.{size}
 use Rattle.cursor.specs.Left.{left, runOf}
 use Rattle.cursor.specs.declared.Step.{Step}
 use Rattle.volume.specs.declared.Volume.{Volume}
-use Rattle.records.specs.Inode.{inodeTold}
+use Rattle.inode_record.specs.Inode.{inodeTold}
 use Rattle.records.specs.Directory.{entryAt}
 use Rattle.records.specs.declared.directory.Entry.{Entry}
-use Rattle.records.specs.declared.inode.Inode.{Inode}
-use Rattle.records.specs.declared.inode.InodeRead.{InodeRead}
+use Rattle.inode_record.specs.declared.inode.Inode.{Inode}
+use Rattle.inode_record.specs.declared.inode.InodeRead.{InodeRead}
 use Rattle.lists.specs.Lists.{searchOf, inodeOf}
 use Rattle.lists.specs.Told.{inodeFound}
 use Rattle.lists.specs.declared.inodes.InodeFound.{InodeFound}

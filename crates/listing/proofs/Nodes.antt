@@ -16,7 +16,7 @@ use Rattle.volume.specs.declared.Volume.{Volume}
 use Rattle.records.specs.Directory.{entryAt}
 use Rattle.records.specs.declared.directory.Entry.{Entry}
 use Rattle.records.specs.declared.attribute.Attribute.{Attribute}
-use Rattle.records.specs.declared.inode.Inode.{Inode}
+use Rattle.inode_record.specs.declared.inode.Inode.{Inode}
 use Rattle.lists.specs.Lists.{searchOf, inodeOf, attributesOf, entriesOf}
 use Rattle.files.specs.File.{packed, readWhole}
 use Rattle.links.specs.Link.{contentsOf}

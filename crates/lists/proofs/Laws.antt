@@ -16,8 +16,8 @@ use Rattle.btree.specs.declared.entries.Scanned.{Scanned}
 use Rattle.cursor.specs.Left.{runOf}
 use Rattle.cursor.specs.Left as Left
 use Rattle.volume.specs.declared.Volume.{Volume}
-use Rattle.records.specs.Inode.{inodeTold, inodeAt}
-use Rattle.records.specs.declared.inode.InodeRead.{InodeRead}
+use Rattle.inode_record.specs.Inode.{inodeTold, inodeAt}
+use Rattle.inode_record.specs.declared.inode.InodeRead.{InodeRead}
 use Rattle.cursor.specs.declared.Step.{Step}
 use Rattle.cursor.proofs.Through as through
 use Rattle.lists.specs.Lists.{searchOf, listOf, elementAt, keep, kept, placed, inodeOf}

@@ -15,11 +15,11 @@ use Rattle.volume.specs.declared.Volume.{Volume}
 use Rattle.records.specs.Directory.{entryAt}
 use Rattle.records.specs.Attribute.{attributeAt}
 use Rattle.records.specs.Extent.{extentAt}
-use Rattle.records.specs.Inode.{inodeAt}
+use Rattle.inode_record.specs.Inode.{inodeAt}
 use Rattle.records.specs.declared.directory.Entry.{Entry}
 use Rattle.records.specs.declared.attribute.Attribute.{Attribute}
 use Rattle.records.specs.declared.extent.Extent.{Extent}
-use Rattle.records.specs.declared.inode.Inode.{Inode}
+use Rattle.inode_record.specs.declared.inode.Inode.{Inode}
 
 -- the records of an id and a kind in a volume's tree
 abbrev pub searchOf : Volume → ℕ → ℕ → Search

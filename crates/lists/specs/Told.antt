@@ -2,11 +2,11 @@
 use mathlib.Core.Option.{Option, none, some}
 use Rattle.error.specs.Answer.{Answer, got, no}
 use Rattle.lookup.specs.Counted.{Counted, after}
-use Rattle.records.specs.Inode.{inodeTold}
+use Rattle.inode_record.specs.Inode.{inodeTold}
 use Rattle.records.specs.declared.directory.Entry.{Entry}
 use Rattle.records.specs.declared.attribute.Attribute.{Attribute}
 use Rattle.records.specs.declared.extent.Extent.{Extent}
-use Rattle.records.specs.declared.inode.Inode.{Inode}
+use Rattle.inode_record.specs.declared.inode.Inode.{Inode}
 use Rattle.lists.specs.declared.entries.EntryAt.{EntryAt}
 use Rattle.lists.specs.declared.entries.EntryAt.the-variants as entry
 use Rattle.lists.specs.declared.entries.EntryFound.{EntryFound}

@@ -11,7 +11,7 @@ use Rattle.utf8.specs.Text.{sameBytes, strict}
 use Rattle.lookup.specs.Counted.{Counted, after, onto}
 use Rattle.volume.specs.declared.Volume.{Volume}
 use Rattle.records.specs.declared.directory.Entry.{Entry}
-use Rattle.records.specs.declared.inode.Inode.{Inode}
+use Rattle.inode_record.specs.declared.inode.Inode.{Inode}
 use Rattle.lists.specs.Lists.{entriesOf, inodeOf}
 use Rattle.paths.specs.Parts.{partsOf}
 use Rattle.paths.specs.Names.{ruleOf, insensitive, wide, sameKeys}

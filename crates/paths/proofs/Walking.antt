@@ -16,8 +16,8 @@ use Rattle.lookup.specs.Counted.{Counted, after}
 use Rattle.volume.specs.declared.Volume.{Volume}
 use Rattle.records.specs.declared.directory.Entry.{Entry}
 use Rattle.records.specs.declared.directory.EntryRead.{EntryRead}
-use Rattle.records.specs.declared.inode.Inode.{Inode}
-use Rattle.records.specs.declared.inode.InodeRead.{InodeRead}
+use Rattle.inode_record.specs.declared.inode.Inode.{Inode}
+use Rattle.inode_record.specs.declared.inode.InodeRead.{InodeRead}
 use Rattle.lists.specs.Lists.{inodeOf}
 use Rattle.lists.specs.Told.{inodeFound}
 use Rattle.lists.specs.declared.inodes.InodeFound.{InodeFound}

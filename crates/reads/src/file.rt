@@ -1,9 +1,9 @@
 // The bytes of a file from an offset on.
 use bytes::Number;
 use files::read_at;
+use inode_record::Inode;
+use inode_record::InodeRead;
 use lists::inode;
-use records::Inode;
-use records::InodeRead;
 use text::Position;
 use volume::Volume;
 use volume::VolumeOpening;

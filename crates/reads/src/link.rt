@@ -1,9 +1,9 @@
 // The text of a symbolic link.
 use bytes::Number;
+use inode_record::Inode;
+use inode_record::InodeRead;
 use links::read_link;
 use lists::inode;
-use records::Inode;
-use records::InodeRead;
 use text::Position;
 use volume::Volume;
 use volume::VolumeOpening;

@@ -1,9 +1,7 @@
-// The records of a volume's tree: directory entries, attributes, file extents and inodes (fs.rs).
+// The records of a volume's tree beside inodes: directory entries, attributes and file extents (fs.rs).
 mod attribute;
 mod directory;
 mod extent;
-mod fields;
-mod inode;
 
 pub use attribute::Attribute;
 pub use attribute::AttributeData;
@@ -19,14 +17,3 @@ pub use directory::entry_name;
 pub use extent::Extent;
 pub use extent::ExtentRead;
 pub use extent::extent_at;
-pub use fields::Dstream;
-pub use fields::Fields;
-pub use fields::NameField;
-pub use fields::StreamField;
-pub use inode::Ids;
-pub use inode::Inode;
-pub use inode::InodeRead;
-pub use inode::Owner;
-pub use inode::Times;
-pub use inode::inode_at;
-pub use inode::inode_name;
