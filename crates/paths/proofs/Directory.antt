@@ -21,7 +21,7 @@ use Rattle.lists.proofs.Turns.{entry-was, entry-was-no}
 use Rattle.utf8.specs.Text.{lossy}
 use Rattle.paths.specs.Names.{ruleOf}
 use Rattle.paths.specs.Find.{findEntry}
-use Rattle.paths.specs.Weigh.{noneYet, weighed, settled}
+use Rattle.paths.specs.Inner.{noneYet, weighed, settled}
 use Rattle.paths.specs.Lookup.{entryChosen, nameRead, entryIn}
 use Rattle.paths.specs.declared.names.NameRule.{NameRule}
 use Rattle.paths.specs.declared.choose.Choice.{Choice}

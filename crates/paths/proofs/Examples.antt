@@ -8,7 +8,8 @@ use Rattle.error.specs.declared.Refusal.the-variants.{NotFound, CharacterNotCov
 use Rattle.utf8.specs.Text.{sameBytes}
 use Rattle.name_hash.specs.Hash.{lower}
 use Rattle.records.specs.declared.directory.Entry.{Entry}
-use Rattle.paths.specs.Parts.{isSeparator, splitOf, partsOf, leading, nextPart}
+use Rattle.paths.specs.Parts.{isSeparator, splitOf, partsOf}
+use Rattle.paths.specs.Inner.{leading, nextPart}
 use Rattle.paths.specs.Names.{wide, folded, foldedKey, sameKeys}
 use Rattle.paths.specs.Find.{exactMatch, keyMatch, findEntry}
 use Rattle.paths.specs.declared.names.NameRule.{NameRule}

@@ -13,7 +13,8 @@ use Rattle.error.specs.Answer.{pick, ifEq}
 use Rattle.error.proofs.Laws.{eq-cases}
 use Rattle.bytes.specs.Part.{partOf}
 use Rattle.bytes.specs.declared.Span.{Span}
-use Rattle.paths.specs.Parts.{isSeparator, unlessEmpty, splitOf, partsOf, leading, nextPart}
+use Rattle.paths.specs.Parts.{isSeparator, unlessEmpty, splitOf, partsOf}
+use Rattle.paths.specs.Inner.{leading, nextPart}
 
 -- the turns of the loop that passes separators, or what are none
 module _ (x : List ℕ) (d : Bool) (i whole : ℕ) (p : i + leading d (drop i x) ≡ whole) where

@@ -8,7 +8,8 @@ use Rattle.error.specs.Answer.{ifLe, ifEq}
 use Rattle.utf8.specs.Text.{strict, replaced, replacedIn, pieceOf, restOf, ifIn, agree}
 use Rattle.volume.specs.declared.Volume.{Volume}
 use Rattle.lists.specs.Lists.{inodeOf}
-use Rattle.paths.specs.Parts.{partsOf, leading}
+use Rattle.paths.specs.Parts.{partsOf}
+use Rattle.paths.specs.Inner.{leading}
 use Rattle.paths.specs.Lookup.{walkParts, lookupPath}
 use Rattle.paths.proofs.Parts.{parts-empty, parts-skipped}
 use Rattle.paths.proofs.Examples.{parts-slashes}

@@ -21,7 +21,8 @@ use Rattle.inode_record.specs.declared.inode.InodeRead.{InodeRead}
 use Rattle.lists.specs.Lists.{inodeOf}
 use Rattle.lists.specs.Told.{inodeFound}
 use Rattle.lists.specs.declared.inodes.InodeFound.{InodeFound}
-use Rattle.paths.specs.Parts.{partsOf, nextPart}
+use Rattle.paths.specs.Parts.{partsOf}
+use Rattle.paths.specs.Inner.{nextPart}
 use Rattle.paths.specs.Lookup.{entryChosen, entryIn, partInode, walkParts, lookupPath}
 use Rattle.paths.specs.declared.walk.EntryChosen.{EntryChosen}
 use Rattle.paths.proofs.Laws.{all, denied, granted}

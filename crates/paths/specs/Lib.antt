@@ -2,4 +2,4 @@ pub mod Parts
 pub mod Names
 pub mod Find
 pub mod Lookup
-pub mod Weigh
+pub mod Inner

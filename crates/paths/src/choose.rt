@@ -10,7 +10,7 @@ use utf8::reads_as;
 ghost use mathlib.Core.Path.{_≡_};
 ghost use Rattle.records.specs.Directory.{entryTold};
 ghost use Rattle.utf8.specs.Text.{lossy};
-ghost use Rattle.paths.specs.Weigh.{noneYet, unlessExact, byKey, weighed, settled};
+ghost use Rattle.paths.specs.Inner.{noneYet, unlessExact, byKey, weighed, settled};
 
 // What is known before the next entry: nothing, the entry of exactly that name, or what the keys say, should no later
 // name be exactly equal.

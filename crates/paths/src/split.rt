@@ -3,7 +3,8 @@ use bytes::Span;
 ghost use mathlib.Core.Path.{_≡_};
 ghost use Prim.Native.Nat.{_+_, _≤_};
 ghost use lib.ListN.{length, drop};
-ghost use Rattle.paths.specs.Parts.{isSeparator, leading, nextPart};
+ghost use Rattle.paths.specs.Parts.{isSeparator};
+ghost use Rattle.paths.specs.Inner.{leading, nextPart};
 
 // Paths split on / and on \.
 fn is_separator(b: u8) -> bool

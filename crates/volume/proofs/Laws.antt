@@ -20,7 +20,8 @@ use Rattle.nx.specs.declared.volume.VolumeFound.{VolumeFound}
 use Rattle.nx.specs.declared.volume.VolumeRead.{VolumeRead}
 use Rattle.nx.specs.declared.volume.VolumeSuperblock.{VolumeSuperblock}
 use Rattle.nx.proofs.Laws as nx-laws
-use Rattle.volume.specs.Open.{rootedOf}
+use Rattle.volume.specs.Open.{openFrom}
+use Rattle.volume.specs.Inner.{rootedOf, treeOf, throughMap, mapFirst, testedOf}
 use Rattle.volume.specs.declared.Volume.{Volume}
 
 -- the info that was read in a list t that is u
@@ -33,6 +34,11 @@ module _ {B : Type 0} (s : ℕ) (t u : List ℕ) (e : t ≡ u) (m : Node) (r : I
 
 pub root-count : (image : List ℕ) (r : Reader) (sb : VolumeSuperblock) (m : Map) (root : Node) (count s : ℕ) (z : Counted Volume) → count ≡ s → z ≡ rootedOf image r sb m root count → z ≡ rootedOf image r sb m root s
 root-count image r sb m root count s z e h = rw e at h
+
+-- the steps one by one are `Volume::open`
+pub opened-from : (image : List ℕ) (r : Reader) (sb : VolumeSuperblock) (xid s : ℕ) (z : Counted Volume) → z ≡ testedOf image r sb xid s → z ≡ openFrom image r sb xid s
+unfolding openFrom testedOf mapFirst throughMap treeOf rootedOf
+opened-from image r sb xid s z h = h
 
 module _ {B : Type 0} (r : VolumeFound) (c : Counted VolumeSuperblock) (f : VolumeSuperblock → ℕ → Counted B) (p : volumeFound r ≡ c) where
   pub volume-got : (sb : VolumeSuperblock) (y : Counted B) → r .volume ≡ VolumeRead.Got sb → y ≡ f sb (r .nodes) → y ≡ onto c f
@@ -48,4 +54,4 @@ module _ {B : Type 0} (r : Opened) (c : Counted Container) (f : Container → �
   pub container-no : (e : Refusal) → r .container ≡ Opening.No e → after (r .nodes) (no e) ≡ onto c f
   container-no e q = rw (← p, q)
 
-pub ruleset all = (nx-laws.all, info-got-in, info-no-in, root-count, volume-got, volume-no, container-got, container-no)
+pub ruleset all = (nx-laws.all, info-got-in, info-no-in, root-count, opened-from, volume-got, volume-no, container-got, container-no)

@@ -30,31 +30,22 @@ opening (No e) = no e
 abbrev pub openTold : VolumeOpened → Counted Volume
 openTold r = after (r .nodes) (opening (r .volume))
 
-unfoldable pub rootedOf : List ℕ → Reader → VolumeSuperblock → Map → Node → ℕ → Counted Volume
-rootedOf image r sb m root s =
-    from s (infoOf root (blockOf r image (root .block))) λ info.
-    after s (got (record { reader = r; sb = sb; map = m; root = root; info = info }))
-
--- the root counts once it has passed as a node
-unfoldable pub treeOf : List ℕ → Reader → VolumeSuperblock → Map → ℕ → ℕ → Counted Volume
-treeOf image r sb m p s = from s (nodeAt r image p) λ root. rootedOf image r sb m root (ticked s)
-
--- the root through the volume's own map; a mapping with flag 0x4 is 3
-unfoldable pub throughMap : List ℕ → Reader → VolumeSuperblock → Map → ℕ → Counted Volume
-throughMap image r sb m s = onto (resolveAt r image (Mapped m) (sb .«root_tree_oid») s) λ p t. treeOf image r sb m p t
-
-unfoldable pub readable : List ℕ → Reader → VolumeSuperblock → ℕ → ℕ → Counted Volume
-readable image r sb xid s = onto (mapAt r image (sb .«omap_oid») xid s) λ m t. throughMap image r sb m t
-
--- APFS_FS_UNENCRYPTED 0x1 of the flags; APFS_INCOMPAT_SEALED_VOLUME 0x20
-unfoldable pub testedOf : List ℕ → Reader → VolumeSuperblock → ℕ → ℕ → Counted Volume
-testedOf image r sb xid s =
+-- fs.rs, `Volume::open`, in its six steps, of a volume's superblock, s nodes having been gone through before: encryption (APFS_FS_UNENCRYPTED is 0x1 of
+-- the flags), sealing (APFS_INCOMPAT_SEALED_VOLUME is 0x20), the volume's own map, the root's address in it (a mapping with flag 0x4 is 3), the root, which
+-- counts once it has passed as a node, and its info
+unfoldable pub openFrom : List ℕ → Reader → VolumeSuperblock → ℕ → ℕ → Counted Volume
+openFrom image r sb xid s =
     ifEq (sb .«fs_flags» % 2) 0 (after s (no Unsupported))
-    (ifEq (sb .incompat / 32 % 2) 1 (after s (no Unsupported)) (readable image r sb xid s))
+    (ifEq (sb .incompat / 32 % 2) 1 (after s (no Unsupported))
+    (onto (mapAt r image (sb .«omap_oid») xid s) λ m t.
+    onto (resolveAt r image (Mapped m) (sb .«root_tree_oid») t) λ p u.
+    from u (nodeAt r image p) λ root.
+    from (ticked u) (infoOf root (blockOf r image (root .block))) λ info.
+    after (ticked u) (got (record { reader = r; sb = sb; map = m; root = root; info = info }))))
 
 -- the volume at an index, s nodes having been gone through before
 unfoldable pub volumeOpen : List ℕ → Container → ℕ → ℕ → Counted Volume
-volumeOpen image c index s = onto (volumeSuperblock image c index s) λ sb t. testedOf image (c .reader) sb (c .sb .xid) t
+volumeOpen image c index s = onto (volumeSuperblock image c index s) λ sb t. openFrom image (c .reader) sb (c .sb .xid) t
 
 -- the volume at an index of an image: its container opens first
 unfoldable pub volumeOfImage : List ℕ → ℕ → Counted Volume

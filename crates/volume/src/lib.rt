@@ -19,7 +19,8 @@ use nx::volume_superblock;
 use obj::Reader;
 use omap::Loading;
 ghost use mathlib.Core.Path.{_≡_};
-ghost use Rattle.volume.specs.Open.{openTold, rootedOf, treeOf, throughMap, readable, volumeOpen, testedOf, volumeOfImage};
+ghost use Rattle.volume.specs.Open.{openTold, volumeOpen, volumeOfImage};
+ghost use Rattle.volume.specs.Inner.{rootedOf, treeOf, throughMap, mapFirst, testedOf};
 
 pub struct Volume {
     pub reader: Reader,
@@ -109,14 +110,14 @@ fn with_map(
     }
 }
 
-fn readable_of(
+fn with_superblock(
     image: &[u8],
     reader: Reader,
     sb: VolumeSuperblock,
     xid: u64,
     nodes: u64,
 ) -> VolumeOpened
-    ensures { λ r. ⌜ openTold r ≡ readable (now (image .entry)) reader sb xid nodes ⌝ }
+    ensures { λ r. ⌜ openTold r ≡ mapFirst (now (image .entry)) reader sb xid nodes ⌝ }
 {
     let loaded = omap::load(reader, image, sb.omap_oid, xid, nodes);
     let map = loaded.map;
@@ -145,7 +146,7 @@ fn open_of(image: &[u8], reader: Reader, sb: VolumeSuperblock, xid: u64, nodes: 
             nodes: nodes,
         };
     }
-    readable_of(image, reader, sb, xid, nodes)
+    with_superblock(image, reader, sb, xid, nodes)
 }
 
 // The volume at an index of a container.

@@ -1,5 +1,5 @@
 use borrow.Author.Needs.{needs}
-use Rattle.volume.specs.Open.{testedOf}
+use Rattle.volume.specs.Inner.{testedOf}
 use Rattle.volume.proofs.Laws.{all}
 use Rattle.volume.proofs.open_of.Statement.{statement}
 use Rattle.volume.proofs.open_of.Tie as tie

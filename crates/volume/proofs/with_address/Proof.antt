@@ -1,5 +1,5 @@
 use borrow.Author.Needs.{needs}
-use Rattle.volume.specs.Open.{treeOf}
+use Rattle.volume.specs.Inner.{treeOf}
 use Rattle.volume.proofs.Laws.{all}
 use Rattle.volume.proofs.with_address.Statement.{statement}
 use Rattle.volume.proofs.with_address.Tie as tie

@@ -1,5 +1,5 @@
 use borrow.Author.Needs.{needs}
-use Rattle.volume.specs.Open.{throughMap}
+use Rattle.volume.specs.Inner.{throughMap}
 use Rattle.volume.proofs.Laws.{all}
 use Rattle.volume.proofs.with_map.Statement.{statement}
 use Rattle.volume.proofs.with_map.Tie as tie

@@ -1,5 +1,5 @@
 use borrow.Author.Needs.{needs}
-use Rattle.volume.specs.Open.{rootedOf}
+use Rattle.volume.specs.Inner.{rootedOf}
 use Rattle.volume.proofs.Laws.{all}
 use Rattle.volume.proofs.with_root.Statement.{statement}
 use Rattle.volume.proofs.with_root.Tie as tie

@@ -1,5 +1,5 @@
 use borrow.Author.Needs.{needs}
-use Rattle.paths.specs.Weigh.{noneYet}
+use Rattle.paths.specs.Inner.{noneYet}
 use Rattle.paths.proofs.Laws.{all}
 use Rattle.paths.proofs.choose.none_yet.Statement.{statement}
 use Rattle.paths.proofs.choose.none_yet.Tie as tie

@@ -1,5 +1,5 @@
 use borrow.Author.Needs.{needs}
-use Rattle.paths.specs.Weigh.{unlessExact}
+use Rattle.paths.specs.Inner.{unlessExact}
 use Rattle.paths.proofs.Laws.{all}
 use Rattle.paths.proofs.choose.unless_exact.Statement.{statement}
 use Rattle.paths.proofs.choose.unless_exact.Tie as tie

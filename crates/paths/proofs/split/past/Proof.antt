@@ -1,7 +1,7 @@
 use Prim.Native.Nat.{_+_, _-_}
 use mathlib.Core.Path.{_≡_}
 use lib.ListN.{length, drop}
-use Rattle.paths.specs.Parts.{leading}
+use Rattle.paths.specs.Inner.{leading}
 use Rattle.paths.proofs.Laws.{all}
 use Rattle.paths.proofs.Parts.{past-done, past-stops, past-goes}
 use Rattle.paths.proofs.split.past.Statement.{statement}

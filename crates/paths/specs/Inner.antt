@@ -1,10 +1,16 @@
--- The same choice made entry after entry, in one reading of the list: what is known before, after an entry, and after the last (Find.antt, `findEntry`).
-use Prim.Native.Nat.{ℕ}
-use mathlib.Core.List.{List}
+-- The shape of the code that looks a path up; a reader of the contracts may pass over this file. The parts by their places are `partsOf` (Parts.antt), by
+-- `next-parts` (proofs/Parts.antt); the choice made entry after entry, in one reading of the list, is `findEntry` (Find.antt), by
+-- `chosen-start` (proofs/Chosen.antt).
+use Prim.Native.Nat.{ℕ, suc, _+_}
+use mathlib.Core.Bool.{Bool, true, false, Bool·beq}
+use mathlib.Core.List.{List, [], _∷_}
+use lib.ListN.{drop}
 use Rattle.error.specs.Answer.{Answer, got, no, pick}
 use Rattle.error.specs.declared.Refusal.the-variants.{NotFound, CharacterNotCovered}
+use Rattle.bytes.specs.declared.Span.{Span}
 use Rattle.utf8.specs.Text.{sameBytes}
 use Rattle.records.specs.declared.directory.Entry.{Entry}
+use Rattle.paths.specs.Parts.{isSeparator}
 use Rattle.paths.specs.Names.{insensitive, wide, sameKeys}
 use Rattle.paths.specs.declared.names.NameRule.{NameRule}
 use Rattle.paths.specs.declared.choose.Choice.{Choice}
@@ -35,3 +41,12 @@ settled Open = no NotFound
 settled (Exact x) = got x
 settled (Keyed x) = got x
 settled (No w) = no w
+
+-- the parts by their places: how many bytes at the head are separators, or are none
+unfoldable pub leading : Bool → List ℕ → ℕ
+leading d [] = 0
+leading d (b ∷ x) = pick (Bool·beq (isSeparator b) d) (suc (leading d x)) 0
+
+-- the first part from a place on, empty where there is none
+unfoldable pub nextPart : List ℕ → ℕ → Span
+nextPart x at = record { start = at + leading true (drop at x); len = leading false (drop (at + leading true (drop at x)) x) }
