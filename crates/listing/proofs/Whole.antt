@@ -11,10 +11,10 @@ use Rattle.error.specs.declared.Refusal.{Refusal}
 use Rattle.error.specs.declared.Refusal.the-variants.{BufferTooShort}
 use Rattle.error.proofs.Laws.{at-most, above}
 use Rattle.utf8.specs.Text.{lossy}
-use Rattle.text.specs.Output.{Output, at, refused, outputOf, puts, whole}
+use Rattle.text.specs.Output.{Output, at, refused, outputOf, puts}
 use Rattle.text.specs.declared.Position.{Position}
 use Rattle.text.specs.declared.Position.the-variants.{At, No}
-use Rattle.text.proofs.Whole.{whole-written}
+use Rattle.text.proofs.Whole.{whole, whole-written}
 use Rattle.lookup.specs.Counted.{Counted}
 use Rattle.volume.specs.Open.{openTold, volumeOfImage}
 use Rattle.volume.specs.declared.Volume.{Volume}
