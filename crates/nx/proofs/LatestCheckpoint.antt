@@ -26,7 +26,7 @@ use Rattle.checkpoints.proofs.Latest.{LatestOf, latest-of, none-of}
 use Rattle.nx.specs.Open.{supported, chosenOf, mappedOf, containerOf, openAt}
 use Rattle.nx.specs.declared.container.Container.{Container}
 use Rattle.nx.specs.LatestCheckpoint.{blockZero, size, placeOf, ringBlock, xidOf, superblockOf, Candidate, Latest, openedAs, Opens, at-latest, no-candidate, LatestCheckpoint}
-use Rattle.nx.proofs.BlockZero.{number-got, block-zero, area-got}
+use Rattle.nx.proofs.BlockZero.{number-got, zero-read, area-got, read-means, read-if}
 use Rattle.nx.proofs.Objects.{headerOf, header-read}
 use Rattle.nx.proofs.MapBlocks.{maps-mean, maps-if}
 
@@ -138,8 +138,9 @@ module _ (image : List ℕ) (g : Geometry) (big : 4096 ≤ g .reader .«block_si
 
 pub latest-checkpoint : LatestCheckpoint
 latest-checkpoint = record {
-  opening = λ image h g start p a.
-      let z = block-zero image g p in
-      let s = area-got (length image) g start a in
-      rw (z .1) (opens-so image g (z .0) (rw (s .0) at (s .1)) h start p a (s .0));
+  opening = λ image h r.
+      let z = zero-read image (r .0) (r .2) in
+      let s = area-got (length image) (r .0) (r .1) (r .3) in
+      rw (z .fields) (opens-so image (r .0) (z .sized .taken .0) (s .area) h (r .1) (r .2) (r .3) (s .product));
+  reading = λ image. (read-means image, read-if image);
 }

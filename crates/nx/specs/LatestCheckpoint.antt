@@ -1,12 +1,12 @@
 -- THE CHECKPOINT that a container is opened at: what is said of it. Document 01, "Opening, in order". It is proved, as `latest-checkpoint`, in
 -- proofs/LatestCheckpoint.antt.
 --
--- Of every image of at most 2^34 bytes, damaged or not, whose block 0 is read (`geometryAt`) and whose descriptor area lies in the image (`areaAt`), one
--- of two holds:
+-- Of every image of at most 2^34 bytes, damaged or not, whose block 0 is read and whose descriptor area lies in the image, one of two holds:
 --   1. some block of the ring is the latest, and opening answers exactly what version 1, Fusion and the object map say of the superblock in it, with
 --      the block size and block count of block 0, and the object map at that superblock's transaction number;
 --   2. no block of the ring is a candidate, and opening is refused with 2.
 -- The latest is the candidate of the greatest transaction number, and of several the earliest. A candidate is told by its bytes and by those of its maps.
+-- And 3. block 0 is read (`geometryAt`) and the area is found (`areaAt`) exactly if what the paper tests of them holds of the image's bytes.
 --
 -- Of which call: `nx::open(image)` answers `openAt image`, which is its contract. `little n b off` is the number of the n bytes of b at off, `valid` the
 -- test of an object's checksum, `mapAt` the object map that is loaded from an address. What `apfs_open` writes of it stands in apfs, specs/Opened.antt.
@@ -15,7 +15,9 @@
 use Prim.Native.Nat.{ℕ, _+_, _-_, _*_, _/_, _%_, _^_, _≤_, _<_}
 use mathlib.Core.Path.{_≡_}
 use mathlib.Core.Bool.{true}
+use mathlib.Core.Logic.{_↔_}
 use mathlib.Core.List.{List}
+use lib.Count.{ones}
 use lib.ListN.{length}
 use Rattle.error.specs.Answer.{got, no, ifEq}
 use Rattle.error.specs.declared.Refusal.the-variants.{Corrupt, Unsupported}
@@ -38,6 +40,20 @@ blockZero image = record {
   ring = little 4 image 104;
   base = little 8 image 112;
 }
+
+-- what is tested of block 0 and of the descriptor area: "First 4,096 bytes missing: 1. No NXSB at byte 32: 4. Block size: 2. Rest of block 0: 1.
+-- Descriptor-tree bit 0x80000000: 3. Area address product over 2^64 − 1: 8. Area past the image: 1"; "Block 0's checksum is not checked"
+pub record BlockZeroRead (image : List ℕ) : Type 0 where
+  pub first-bytes : 4096 ≤ length image
+  pub magic : little 4 image 32 ≡ 0x4253584E
+  -- "4,096 to 65,536 and a number with one bit set"
+  pub size-from : 4096 ≤ little 4 image 36
+  pub size-to : little 4 image 36 ≤ 65536
+  pub one-bit : ones (little 4 image 36) ≡ 1
+  pub rest : little 4 image 36 ≤ length image
+  pub no-tree : little 4 image 104 / 2 ^ 31 ≡ 1 → ⊥
+  pub product-fits : little 8 image 112 * little 4 image 36 ≤ 2 ^ 64 - 1
+  pub area : little 8 image 112 * little 4 image 36 + little 4 image 104 * little 4 image 36 ≤ length image
 
 -- of an image whose block 0 gives g
 module _ (image : List ℕ) (g : Geometry) where
@@ -135,6 +151,12 @@ module _ (image : List ℕ) (g : Geometry) where
 
 -- ---- the theorem
 
+-- block 0 and the area are read
+abbrev pub AreaRead : List ℕ → Type 0
+AreaRead image = (g : Geometry) × (start : ℕ) × (geometryAt image ≡ got g) × (areaAt (length image) g ≡ got start)
+
 pub record LatestCheckpoint : Type 0 where
-  pub opening : (image : List ℕ) → length image ≤ 2 ^ 34 → (g : Geometry) (start : ℕ) → geometryAt image ≡ got g → areaAt (length image) g ≡ got start
-      → Opens image (blockZero image)
+  -- 1 and 2
+  pub opening : (image : List ℕ) → length image ≤ 2 ^ 34 → AreaRead image → Opens image (blockZero image)
+  -- 3
+  pub reading : (image : List ℕ) → AreaRead image ↔ BlockZeroRead image
