@@ -1,4 +1,6 @@
 pub mod Laws
 pub mod SlotTurns
-pub mod Opened
+pub mod BlockZero
+pub mod Objects
+pub mod MapBlocks
 pub mod LatestCheckpoint

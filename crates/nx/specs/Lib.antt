@@ -1,3 +1,4 @@
 pub mod Open
 pub mod Slots
 pub mod Volume
+pub mod LatestCheckpoint

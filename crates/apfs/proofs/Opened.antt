@@ -1,0 +1,71 @@
+-- What `apfs_open` gives: proof of what specs/Opened.antt says.
+use Prim.Native.Nat.{ℕ, _/_, _%_, _^_, _≤_, _<_}
+use mathlib.Core.Path.{_≡_, refl, ap, _∙_}
+use mathlib.Core.Logic.{_⊎_, inl, inr, ⊎-elim}
+use mathlib.Core.List.{List, [], _++_}
+use lib.IntN.{ℤ, pos}
+use lib.ListN.{length, drop}
+use Rattle.error.specs.Answer.{Answer, got, no, _>>=_, numberOf}
+use Rattle.error.specs.declared.Refusal.{Refusal}
+use Rattle.error.specs.declared.Refusal.the-variants.{Corrupt, Unsupported, BufferTooShort}
+use Rattle.error.proofs.Laws.{le-cases, eq-cases}
+use Rattle.lookup.specs.Counted.{Counted, after, from}
+use Rattle.lookup.specs.declared.map.Map.{Map}
+use Rattle.omap.specs.Load.{mapAt}
+use Rattle.nx.specs.Open.{openAt}
+use Rattle.nx.specs.declared.container.Container.{Container}
+use Rattle.nx.specs.LatestCheckpoint.{blockZero, BlockZeroRead, superblockOf, Candidate, Latest, openedAs, Opens, at-latest, no-candidate}
+use Rattle.nx.proofs.LatestCheckpoint.{latest-checkpoint}
+use Rattle.calls.specs.Filled.{Filled, filled, filledBy}
+use Rattle.container_line.specs.Container.{numberWords, containerHead, containerText, openText}
+use Rattle.apfs.specs.Call.{minus, number, resultOf, bufferOf}
+use Rattle.apfs.specs.Opened as said
+use Rattle.apfs.specs.Opened.{superblock, objectMap, line, Refused, Gives, ApfsOpened}
+
+-- a text that is written, or too long
+text-given : (t out : List ℕ) →
+    ((length t ≤ length out) × (number (filled t out .answer) ≡ pos (length t)) × (filled t out .buffer ≡ t ++ drop (length t) out))
+    ⊎ ((length out < length t) × Refused out (number (filled t out .answer)) (filled t out .buffer) 6)
+unfolding filled
+text-given t out =
+    le-cases (λ (f : Filled). ((length t ≤ length out) × (number (f .answer) ≡ pos (length t)) × (f .buffer ≡ t ++ drop (length t) out)) ⊎ ((length out < length t) × Refused out (number (f .answer)) (f .buffer) 6))
+    (λ h. inl (h, refl, refl)) (λ h. inr (h, (refl, refl)))
+
+module _ (image out : List ℕ) where
+  abbrev Given : Answer (List ℕ) → Type 0
+  Given a = Gives image out (resultOf a out) (bufferOf a out)
+
+  -- the text of an opening
+  abbrev textOf : Counted Container → Answer (List ℕ)
+  textOf x = x .answer >>= λ c. got (containerText image c [])
+
+  module _ (i : ℕ) (l : Latest image (blockZero image) i) where
+    abbrev container : Map → Container
+    container m = record { reader = blockZero image .reader; sb = superblock image i; map = m }
+
+    the-line : (m : Map) → containerText image (container m) [] ≡ line image i
+    unfolding containerText containerHead
+    the-line m = refl
+
+    shown : (said.Unsupported image i → ⊥) → (m : Map) → objectMap image i ≡ got m → Given (got (line image i))
+    shown u m e =
+        ⊎-elim (λ w. said.written i l u m e (w .0) (w .1) (w .2)) (λ s. said.too-short i l u m e (s .0) (s .1)) (text-given (line image i) out)
+
+    loaded : (said.Unsupported image i → ⊥) → (n : ℕ) (a : Answer Map) → objectMap image i ≡ a → Given (textOf (from n a λ m. after n (got (container m))))
+    loaded u n (got m) e = rw (the-line m) (shown u m e)
+    loaded u n (no w) e = said.no-map i l u w e (refl, refl)
+
+    given : Given (textOf (openedAs image (blockZero image) (superblock image i)))
+    unfolding openedAs
+    given =
+        eq-cases (λ (x : Counted Container). Given (textOf x)) (λ h. said.unsupported i l (inl h) (refl, refl))
+        (λ h. eq-cases (λ (x : Counted Container). Given (textOf x)) (λ k. said.unsupported i l (inr k) (refl, refl))
+        (λ k. loaded (⊎-elim h k) (mapAt (blockZero image .reader) image (superblock image i .«omap_oid») (superblock image i .xid) 0 .nodes) (objectMap image i) refl))
+
+  opened : Opens image (blockZero image) → Given (openText image)
+  unfolding openText
+  opened (at-latest i l e) = rw e (given i l)
+  opened (no-candidate n e) = rw e (said.no-candidate n (refl, refl))
+
+pub apfs-opened : ApfsOpened
+apfs-opened = record { call = λ image out h r. opened image out (latest-checkpoint .opening image h (latest-checkpoint .reading image .1 r)) }
