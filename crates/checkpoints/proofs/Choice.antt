@@ -3,6 +3,7 @@ use Prim.Native.Nat.{ℕ, suc, _+_, _-_, _*_, _^_, _≤_, _<_}
 use mathlib.Core.Path.{_≡_, refl, sym, ap, _∙_}
 use mathlib.Core.Bool.{Bool, true, false}
 use mathlib.Core.List.{List}
+use mathlib.Core.Option.{Option, none, some}
 use native.Mathlib.Nat.{mul-le-mul-right, sub-zero}
 use native.Mathlib.Omega.{arith}
 use borrow.Author.Needs.{needs}
@@ -10,65 +11,64 @@ use borrow.Author.Tests.{ltb-true}
 use lib.Dec.{ltb}
 use mir.Syntax.{w64}
 use mir.Val.{Fits}
-use Rattle.error.specs.Answer.{Answer, got, no}
-use Rattle.error.specs.declared.Refusal.{Refusal}
-use Rattle.error.specs.declared.Refusal.the-variants.{Corrupt}
+use Rattle.error.specs.Answer.{Answer, got}
 use Rattle.error.proofs.Laws.{at-most, above}
 use Rattle.bytes.specs.Number.{numberAt, told}
 use Rattle.bytes.specs.Part.{partOf}
 use Rattle.bytes.specs.declared.Number.{Number}
 use Rattle.bytes.specs.declared.Span.{Span}
 use Rattle.obj.specs.declared.reader.Reader.{Reader}
-use Rattle.checkpoints.specs.Superblock.{superTold}
-use Rattle.checkpoints.specs.Checkpoint.{acceptedAt, blockPlace, prefer, latestIn, Older}
+use Rattle.checkpoints.specs.Superblock.{foundTold}
+use Rattle.checkpoints.specs.Checkpoint.{acceptedAt, blockPlace, prefer, latestIn}
+use Rattle.checkpoints.specs.Inner.{Older}
 use Rattle.checkpoints.specs.declared.superblock.Superblock.{Superblock}
-use Rattle.checkpoints.specs.declared.superblock.Superblocked.{Superblocked}
-use Rattle.checkpoints.proofs.Candidate.{same-inside, accepted-number}
+use Rattle.checkpoints.specs.declared.superblock.Found.{Found}
+use Rattle.checkpoints.proofs.Candidate.{accepted-number}
 
-pub older-not : (b : List ℕ) (best : Answer Superblock) → Older b best false
+pub older-not : (b : List ℕ) (best : Option Superblock) → Older b best false
 older-not b best = record { known = λ e. absurd (let z : _≡_ {A = ℕ} 0 1 = cc in omega arith) }
 
-pub older-by : (b : List ℕ) (best : Superblocked) (sb : Superblock) (r : Number) (xid : ℕ) → best ≡ Superblocked.Got sb → told r ≡ numberAt 8 b 16 → r ≡ Number.Got xid → Older b (superTold best) (ltb xid (sb .xid))
-older-by b best sb r xid p q e = record { known = λ t. (sb, (xid, (ap superTold p, sym q ∙ ap told e, ltb-true xid (sb .xid) t))) }
+pub older-by : (b : List ℕ) (best : Found) (sb : Superblock) (r : Number) (xid : ℕ) → best ≡ Found.Got sb → told r ≡ numberAt 8 b 16 → r ≡ Number.Got xid → Older b (foundTold best) (ltb xid (sb .xid))
+older-by b best sb r xid p q e = record { known = λ t. (sb, (xid, (ap foundTold p, sym q ∙ ap told e, ltb-true xid (sb .xid) t))) }
 
 -- a block older than what was taken changes nothing
 module _ (r : Reader) (image : List ℕ) (ring : ℕ) (place : Span) where
-  accepted-xid : (xid : ℕ) (own : Superblock) → numberAt 8 (partOf image place) 16 ≡ got xid → acceptedAt r image ring place ≡ got own → own .xid ≡ xid
-  accepted-xid xid own n e = same-inside (sym (accepted-number r image ring place own e) ∙ n)
+  accepted-xid : (xid : ℕ) (own : Superblock) → numberAt 8 (partOf image place) 16 ≡ got xid → acceptedAt r image ring place ≡ some own → own .xid ≡ xid
+  accepted-xid xid own n e = let q = sym (accepted-number r image ring place own e) ∙ n in cc
 
-  passed-over : (sb : Superblock) (xid : ℕ) → numberAt 8 (partOf image place) 16 ≡ got xid → xid < sb .xid → (a : Answer Superblock) → acceptedAt r image ring place ≡ a → got sb ≡ prefer a (got sb)
-  passed-over sb xid n h (got own) e = above _ _ _ _ _ (omega (arith, accepted-xid xid own n e)) refl
-  passed-over sb xid n h (no w) e = refl
+  passed-over : (sb : Superblock) (xid : ℕ) → numberAt 8 (partOf image place) 16 ≡ got xid → xid < sb .xid → (a : Option Superblock) → acceptedAt r image ring place ≡ a → some sb ≡ prefer a (some sb)
+  passed-over sb xid n h (some own) e = above _ _ _ _ _ (omega (arith, accepted-xid xid own n e)) refl
+  passed-over sb xid n h none e = refl
 
-  pub take-older : (b : List ℕ) (best : Answer Superblock) (d : Bool) → b ≡ partOf image place → Older b best d → d ≡ true → best ≡ prefer (acceptedAt r image ring place) best
+  pub take-older : (b : List ℕ) (best : Option Superblock) (d : Bool) → b ≡ partOf image place → Older b best d → d ≡ true → best ≡ prefer (acceptedAt r image ring place) best
   take-older b best d p o t =
       let k = o .known t in
       let n : numberAt 8 (partOf image place) 16 ≡ got (k .1 .0) = rw p at (k .1 .1 .1) in
       rw (k .1 .1 .0) (passed-over (k .0) (k .1 .0) n (k .1 .1 .2) (acceptedAt r image ring place) refl)
 
 -- the better of two
-module _ (x best : Superblocked) (a : Answer Superblock) (p : superTold x ≡ a) where
-  pub take-own : (own other : Superblock) → x ≡ Superblocked.Got own → best ≡ Superblocked.Got other → other .xid ≤ own .xid → got own ≡ prefer a (superTold best)
+module _ (x best : Found) (a : Option Superblock) (p : foundTold x ≡ a) where
+  pub take-own : (own other : Superblock) → x ≡ Found.Got own → best ≡ Found.Got other → other .xid ≤ own .xid → some own ≡ prefer a (foundTold best)
   take-own own other q s h = rw (← p, q, s) (at-most _ _ _ _ _ h refl)
 
-  pub take-other : (own other : Superblock) → x ≡ Superblocked.Got own → best ≡ Superblocked.Got other → own .xid < other .xid → got other ≡ prefer a (superTold best)
+  pub take-other : (own other : Superblock) → x ≡ Found.Got own → best ≡ Found.Got other → own .xid < other .xid → some other ≡ prefer a (foundTold best)
   take-other own other q s h = rw (← p, q, s) (above _ _ _ _ _ h refl)
 
-  pub take-first : (own : Superblock) (w : Refusal) → x ≡ Superblocked.Got own → best ≡ Superblocked.No w → got own ≡ prefer a (superTold best)
-  take-first own w q s = rw (← p, q, s)
+  pub take-first : (own : Superblock) → x ≡ Found.Got own → best ≡ Found.Nothing → some own ≡ prefer a (foundTold best)
+  take-first own q s = rw (← p, q, s)
 
-  pub take-none : (w : Refusal) → x ≡ Superblocked.No w → superTold best ≡ prefer a (superTold best)
-  take-none w q = rw (← p, q)
+  pub take-none : x ≡ Found.Nothing → foundTold best ≡ prefer a (foundTold best)
+  take-none q = rw (← p, q)
 
 pub ruleset choices = (needs, older-not, older-by, take-older, take-own, take-other, take-first, take-none)
 
 -- the turns of the loop
 module _ (r : Reader) (image : List ℕ) (start ring : ℕ) where
-  pub latest-start : no Corrupt ≡ latestIn r image start ring (ring - ring) ring
+  pub latest-start : none ≡ latestIn r image start ring (ring - ring) ring
   unfolding latestIn
   latest-start = let q : ring - ring ≡ 0 = omega arith in rw q
 
-  pub latest-turn : (i : ℕ) (best : Answer Superblock) (z : Answer Superblock) → 0 < i → i ≤ ring → best ≡ latestIn r image start ring (ring - i) i →
+  pub latest-turn : (i : ℕ) (best : Option Superblock) (z : Option Superblock) → 0 < i → i ≤ ring → best ≡ latestIn r image start ring (ring - i) i →
       z ≡ prefer (acceptedAt r image ring (blockPlace r start (i - 1))) best → z ≡ latestIn r image start ring (ring - (i - 1)) (i - 1)
   unfolding latestIn
   latest-turn i best z h k p e =
@@ -76,7 +76,7 @@ module _ (r : Reader) (image : List ℕ) (start ring : ℕ) where
       let t : i - 1 + 1 ≡ i = omega arith in
       rw (q, t, ← p) e
 
-  pub latest-done : (i : ℕ) (best : Answer Superblock) → i ≤ 0 → best ≡ latestIn r image start ring (ring - i) i → best ≡ latestIn r image start ring ring 0
+  pub latest-done : (i : ℕ) (best : Option Superblock) → i ≤ 0 → best ≡ latestIn r image start ring (ring - i) i → best ≡ latestIn r image start ring ring 0
   latest-done i best h p = let q : i ≡ 0 = omega arith in rw (q, sub-zero) at p
 
 -- a block of the area lies before its end

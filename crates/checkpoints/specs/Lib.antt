@@ -1,3 +1,5 @@
+pub mod Known
 pub mod Superblock
 pub mod Maps
 pub mod Checkpoint
+pub mod Inner

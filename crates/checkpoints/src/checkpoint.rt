@@ -1,5 +1,6 @@
 // The latest checkpoint of a container.
 use crate::accepted::accepted_at;
+use crate::superblock::Found;
 use crate::superblock::Superblocked;
 use bytes::Number;
 use bytes::Span;
@@ -11,57 +12,52 @@ use geometry::area_at;
 use obj::Reader;
 ghost use mathlib.Core.Path.{_≡_};
 ghost use Prim.Native.Nat.{_+_, _*_, _^_, _≤_, _<_};
-ghost use Rattle.checkpoints.specs.Superblock.{superTold};
-ghost use Rattle.checkpoints.specs.Checkpoint.{acceptedAt, prefer, blockPlace, latestIn, checkpointOf, Older};
+ghost use Rattle.checkpoints.specs.Superblock.{foundTold, superTold};
+ghost use Rattle.checkpoints.specs.Checkpoint.{acceptedAt, prefer, blockPlace, latestIn, checkpointOf};
+ghost use Rattle.checkpoints.specs.Inner.{Older};
 
 // Whether the block's transaction number is below that of a checkpoint that was taken already.
-fn is_older(b: &[u8], best: Superblocked) -> bool
-    ensures { λ r. ⌜ Older (now (b .entry)) (superTold best) r ⌝ }
+fn is_older(b: &[u8], best: Found) -> bool
+    ensures { λ r. ⌜ Older (now (b .entry)) (foundTold best) r ⌝ }
 {
     match best {
-        Superblocked::Got(sb) => match u64_at(b, 16) {
+        Found::Got(sb) => match u64_at(b, 16) {
             Number::Got(xid) => xid < sb.xid,
             Number::No(_) => false,
         },
-        Superblocked::No(_) => false,
+        Found::Nothing => false,
     }
 }
 
 // The better of a block and what was taken of the blocks after it.
-fn consider(
-    reader: Reader,
-    image: &[u8],
-    place: Span,
-    ring: u32,
-    best: Superblocked,
-) -> Superblocked
-    ensures { λ r. ⌜ superTold r ≡ prefer (acceptedAt reader (now (image .entry)) ring place) (superTold best) ⌝ }
+fn consider(reader: Reader, image: &[u8], place: Span, ring: u32, best: Found) -> Found
+    ensures { λ r. ⌜ foundTold r ≡ prefer (acceptedAt reader (now (image .entry)) ring place) (foundTold best) ⌝ }
 {
     if is_older(part(image, place), best) {
         return best;
     }
     match accepted_at(reader, image, place, ring) {
-        Superblocked::Got(own) => match best {
-            Superblocked::Got(other) => {
+        Found::Got(own) => match best {
+            Found::Got(other) => {
                 if other.xid <= own.xid {
-                    return Superblocked::Got(own);
+                    return Found::Got(own);
                 }
-                Superblocked::Got(other)
+                Found::Got(other)
             }
-            Superblocked::No(_) => Superblocked::Got(own),
+            Found::Nothing => Found::Got(own),
         },
-        Superblocked::No(_) => best,
+        Found::Nothing => best,
     }
 }
 
 // The earliest block of the greatest transaction number among the accepted ones of a ring that starts at a byte of the image.
 // The ring is gone through backwards: a block older than what was taken is passed over before its checksum is looked at.
-fn latest_checkpoint(reader: Reader, image: &[u8], start: u64, ring: u32) -> Superblocked
+fn latest_checkpoint(reader: Reader, image: &[u8], start: u64, ring: u32) -> Found
     requires { ⌜ start + ring * (reader .«block_size») < 2 ^ 64 ⌝ }
-    ensures { λ r. ⌜ superTold r ≡ latestIn reader (now (image .entry)) start ring ring 0 ⌝ }
+    ensures { λ r. ⌜ foundTold r ≡ latestIn reader (now (image .entry)) start ring ring 0 ⌝ }
 {
     let size = reader.block_size as usize;
-    let mut best = Superblocked::No(Refusal::Corrupt);
+    let mut best = Found::Nothing;
     let mut i = ring;
     while 0 < i {
         i -= 1;
@@ -79,7 +75,10 @@ pub fn checkpoint_of(image: &[u8], g: Geometry) -> Superblocked
     ensures { λ r. ⌜ superTold r ≡ checkpointOf (now (image .entry)) g ⌝ }
 {
     match area_at(image.len(), g) {
-        Number::Got(start) => latest_checkpoint(g.reader, image, start, g.ring),
+        Number::Got(start) => match latest_checkpoint(g.reader, image, start, g.ring) {
+            Found::Got(sb) => Superblocked::Got(sb),
+            Found::Nothing => Superblocked::No(Refusal::Corrupt),
+        },
         Number::No(e) => Superblocked::No(e),
     }
 }

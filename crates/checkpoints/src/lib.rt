@@ -7,5 +7,6 @@ mod superblock;
 pub use checkpoint::checkpoint_of;
 pub use maps::MapTest;
 pub use superblock::Descriptors;
+pub use superblock::Found;
 pub use superblock::Superblock;
 pub use superblock::Superblocked;

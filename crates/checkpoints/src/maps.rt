@@ -5,26 +5,25 @@ use bytes::Number;
 use bytes::Sliced;
 use bytes::part;
 use bytes::u32_at;
-use error::Refusal;
 use obj::Parsed;
 use obj::Reader;
 ghost use mathlib.Core.Path.{_≡_};
 ghost use Prim.Native.Nat.{_-_, _<_, min};
-ghost use Rattle.checkpoints.specs.Maps.{mapTold, mapIn, mapOf, mapCounted, mapAt, mapsFit};
+ghost use Rattle.checkpoints.specs.Maps.{mapTold, entriesHeld, entriesIn, checkpointMapIn, checkpointMapAt, mapsFit};
 
 // What a checkpoint map's block is: the last one, one before others, or none.
 pub enum MapTest {
     Last,
     More,
-    No(Refusal),
+    No,
 }
 
 // A map of `count` entries, 40 bytes each, in a block of `size` bytes.
 fn map_of(size: usize, flags: u32, count: u32) -> MapTest
-    ensures { λ r. ⌜ mapTold r ≡ mapOf size flags count ⌝ }
+    ensures { λ r. ⌜ mapTold r ≡ entriesHeld size flags count ⌝ }
 {
     if size < 40 + 40 * count as usize {
-        return MapTest::No(Refusal::Corrupt);
+        return MapTest::No;
     }
     if flags % 2 == 1 {
         return MapTest::Last;
@@ -33,45 +32,45 @@ fn map_of(size: usize, flags: u32, count: u32) -> MapTest
 }
 
 fn map_counted(b: &[u8]) -> MapTest
-    ensures { λ r. ⌜ mapTold r ≡ mapCounted (now (b .entry)) ⌝ }
+    ensures { λ r. ⌜ mapTold r ≡ entriesIn (now (b .entry)) ⌝ }
 {
     match u32_at(b, 32) {
         Number::Got(flags) => match u32_at(b, 36) {
             Number::Got(count) => map_of(b.len(), flags as u32, count as u32),
-            Number::No(e) => MapTest::No(e),
+            Number::No(_) => MapTest::No,
         },
-        Number::No(e) => MapTest::No(e),
+        Number::No(_) => MapTest::No,
     }
 }
 
 fn map_in(b: &[u8], xid: u64) -> MapTest
-    ensures { λ r. ⌜ mapTold r ≡ mapIn (now (b .entry)) xid ⌝ }
+    ensures { λ r. ⌜ mapTold r ≡ checkpointMapIn (now (b .entry)) xid ⌝ }
 {
     match obj::parse(b) {
         Parsed::Got(h) => {
             if h.obj_type % 65536 != 12 {
-                return MapTest::No(Refusal::Corrupt);
+                return MapTest::No;
             }
             if h.xid != xid {
-                return MapTest::No(Refusal::Corrupt);
+                return MapTest::No;
             }
             map_counted(b)
         }
-        Parsed::No(e) => MapTest::No(e),
+        Parsed::No(_) => MapTest::No,
     }
 }
 
 // The k-th map of a candidate, on a ring of blocks.
 fn map_at(reader: Reader, image: &[u8], d: Descriptors, xid: u64, ring: u32, k: u32) -> MapTest
     requires { ⌜ 0 < ring ⌝ }
-    ensures { λ r. ⌜ mapTold r ≡ mapAt reader (now (image .entry)) d xid ring k ⌝ }
+    ensures { λ r. ⌜ mapTold r ≡ checkpointMapAt reader (now (image .entry)) d xid ring k ⌝ }
 {
     match sum(d.base, (d.index as u64 + k as u64) % (ring as u64)) {
         Number::Got(paddr) => match reader.read_object(image, paddr) {
             Sliced::Got(s) => map_in(part(image, s), xid),
-            Sliced::No(e) => MapTest::No(e),
+            Sliced::No(_) => MapTest::No,
         },
-        Number::No(e) => MapTest::No(e),
+        Number::No(_) => MapTest::No,
     }
 }
 
@@ -101,7 +100,7 @@ pub fn maps_fit(reader: Reader, image: &[u8], d: Descriptors, xid: u64, ring: u3
         match map_at(reader, image, d, xid, ring, k) {
             MapTest::Last => return true,
             MapTest::More => {}
-            MapTest::No(_) => return false,
+            MapTest::No => return false,
         }
         k += 1;
     }

@@ -5,7 +5,7 @@ use bytes::u32_at;
 use bytes::u64_at;
 use error::Refusal;
 ghost use mathlib.Core.Path.{_≡_};
-ghost use Rattle.checkpoints.specs.Superblock.{describedTold, descriptorsAt, superTold, superblockAt};
+ghost use Rattle.checkpoints.specs.Superblock.{describedTold, descriptorsAt, foundTold, superblockAt};
 
 // Where a checkpoint says that its own descriptor blocks lie.
 pub struct Descriptors {
@@ -16,7 +16,7 @@ pub struct Descriptors {
 
 pub enum Described {
     Got(Descriptors),
-    No(Refusal),
+    Nothing,
 }
 
 pub struct Superblock {
@@ -26,6 +26,12 @@ pub struct Superblock {
     pub omap_oid: u64,
     pub max_volumes: u32,
     pub descriptors: Descriptors,
+}
+
+// What a block is asked for: a superblock, or nothing.
+pub enum Found {
+    Got(Superblock),
+    Nothing,
 }
 
 pub enum Superblocked {
@@ -38,11 +44,11 @@ fn descriptors_at(b: &[u8]) -> Described
 {
     let base = match u64_at(b, 112) {
         Number::Got(x) => x,
-        Number::No(e) => return Described::No(e),
+        Number::No(_) => return Described::Nothing,
     };
     let index = match u32_at(b, 136) {
         Number::Got(x) => x,
-        Number::No(e) => return Described::No(e),
+        Number::No(_) => return Described::Nothing,
     };
     match u32_at(b, 140) {
         Number::Got(len) => Described::Got(Descriptors {
@@ -50,32 +56,32 @@ fn descriptors_at(b: &[u8]) -> Described
             index: index as u32,
             len: len as u32,
         }),
-        Number::No(e) => Described::No(e),
+        Number::No(_) => Described::Nothing,
     }
 }
 
 // The superblock in the bytes of a block that lies at a place of the image.
-pub fn superblock_at(b: &[u8], place: Span) -> Superblocked
-    ensures { λ r. ⌜ superTold r ≡ superblockAt (now (b .entry)) place ⌝ }
+pub fn superblock_at(b: &[u8], place: Span) -> Found
+    ensures { λ r. ⌜ foundTold r ≡ superblockAt (now (b .entry)) place ⌝ }
 {
     let xid = match u64_at(b, 16) {
         Number::Got(x) => x,
-        Number::No(e) => return Superblocked::No(e),
+        Number::No(_) => return Found::Nothing,
     };
     let incompat = match u64_at(b, 64) {
         Number::Got(x) => x,
-        Number::No(e) => return Superblocked::No(e),
+        Number::No(_) => return Found::Nothing,
     };
     let omap_oid = match u64_at(b, 160) {
         Number::Got(x) => x,
-        Number::No(e) => return Superblocked::No(e),
+        Number::No(_) => return Found::Nothing,
     };
     let max_volumes = match u32_at(b, 180) {
         Number::Got(x) => x,
-        Number::No(e) => return Superblocked::No(e),
+        Number::No(_) => return Found::Nothing,
     };
     match descriptors_at(b) {
-        Described::Got(d) => Superblocked::Got(Superblock {
+        Described::Got(d) => Found::Got(Superblock {
             place: place,
             xid: xid,
             incompat: incompat,
@@ -83,6 +89,6 @@ pub fn superblock_at(b: &[u8], place: Span) -> Superblocked
             max_volumes: max_volumes as u32,
             descriptors: d,
         }),
-        Described::No(e) => Superblocked::No(e),
+        Described::Nothing => Found::Nothing,
     }
 }

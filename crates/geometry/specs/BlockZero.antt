@@ -1,10 +1,12 @@
 -- What block 0 says: the block size, the block count and where the descriptor area lies. Document 01, "Opening, in order", and nx.rs; Apple File System
 -- Reference, "Container", nx_superblock_t.
 use Prim.Native.Nat.{ℕ, _*_, _/_, _^_}
+use mathlib.Core.Bool.{Bool, false}
 use mathlib.Core.List.{List}
 use lib.Count.{ones}
+use lib.Dec.{eqb}
 use lib.ListN.{length}
-use Rattle.error.specs.Answer.{Answer, got, no, _>>=_, ifLe, ifEq}
+use Rattle.error.specs.Answer.{Answer, got, no, _>>=_, pick, ifLe, ifEq}
 use Rattle.error.specs.declared.Refusal.the-variants.{Io, Corrupt, Unsupported, NotFound}
 use Rattle.bytes.specs.Number.{numberAt}
 use Rattle.bytes.specs.Part.{partOf, spanAt}
@@ -27,9 +29,17 @@ sizeTold (sized.No e) = no e
 unfoldable pub sizeOk : ℕ → Answer ℕ
 sizeOk size = ifLe 4096 size (ifLe size 65536 (ifEq (ones size) 1 (got size) (no Corrupt)) (no Corrupt)) (no Corrupt)
 
+-- NX_MAGIC, "NXSB"
+abbrev pub isMagic : Answer ℕ → Bool
+isMagic (got n) = eqb n 0x4253584E
+isMagic (no e) = false
+
+unfoldable pub hasMagic : List ℕ → Bool
+hasMagic b = isMagic (numberAt 4 b 32)
+
 -- "No NXSB at byte 32: 4. Block size: 2"
 unfoldable pub sizeIn : List ℕ → Answer ℕ
-sizeIn b = numberAt 4 b 32 >>= λ magic. ifEq magic 0x4253584E (numberAt 4 b 36 >>= sizeOk) (no NotFound)
+sizeIn b = pick (hasMagic b) (numberAt 4 b 36 >>= sizeOk) (no NotFound)
 
 -- "First 4,096 bytes missing: 1"
 unfoldable pub sizeAt : List ℕ → Answer ℕ

@@ -11,7 +11,7 @@ use obj::Reader;
 ghost use mathlib.Core.Path.{_≡_};
 ghost use lib.ListN.{length};
 ghost use Rattle.bytes.specs.Number.{told};
-ghost use Rattle.geometry.specs.BlockZero.{sizeTold, sizeOk, sizeIn, measuredTold, ringOf, geometryIn, sizeAt, geometryAt, areaAt};
+ghost use Rattle.geometry.specs.BlockZero.{hasMagic, sizeTold, sizeOk, sizeIn, measuredTold, ringOf, geometryIn, sizeAt, geometryAt, areaAt};
 
 pub struct Geometry {
     pub reader: Reader,
@@ -45,22 +45,27 @@ fn size_ok(size: u32) -> Sized
     Sized::Got(size)
 }
 
+// Whether a block has NXSB where a container superblock has it.
+pub fn has_magic(b: &[u8]) -> bool
+    ensures { λ r. ⌜ r ≡ hasMagic (now (b .entry)) ⌝ }
+{
+    match u32_at(b, 32) {
+        Number::Got(magic) => magic == 0x4253584E,
+        Number::No(_) => false,
+    }
+}
+
 // The block size that the first 4,096 bytes give.
 fn size_in(b: &[u8]) -> Sized
     ensures { λ r. ⌜ sizeTold r ≡ sizeIn (now (b .entry)) ⌝ }
 {
-    match u32_at(b, 32) {
-        Number::Got(magic) => {
-            if magic != 0x4253584E {
-                return Sized::No(Refusal::NotFound);
-            }
-            match u32_at(b, 36) {
-                Number::Got(size) => size_ok(size as u32),
-                Number::No(e) => Sized::No(e),
-            }
-        }
-        Number::No(e) => Sized::No(e),
+    if has_magic(b) {
+        return match u32_at(b, 36) {
+            Number::Got(size) => size_ok(size as u32),
+            Number::No(e) => Sized::No(e),
+        };
     }
+    Sized::No(Refusal::NotFound)
 }
 
 // The descriptor area as a ring of blocks.

@@ -1,24 +1,41 @@
 -- What block 0 gives are its fields, and the descriptor area that it gives lies in the image.
 use Prim.Native.Nat.{ℕ, _+_, _-_, _*_, _/_, _^_, _≤_}
 use mathlib.Core.Path.{_≡_, refl, sym, ap, _∙_}
+use mathlib.Core.Bool.{Bool, true, false}
 use mathlib.Core.List.{List}
 use lib.Count.{ones}
 use lib.ListN.{length}
 use native.Mathlib.Nat.{zero-add}
 use native.Mathlib.Omega.{arith}
-use Rattle.error.specs.Answer.{Answer, got, no, ifEq}
+use Rattle.error.specs.Answer.{Answer, got, no, pick}
 use Rattle.error.specs.declared.Refusal.{Refusal}
 use Rattle.error.specs.declared.Refusal.the-variants.{Io, NotFound}
-use Rattle.error.proofs.Laws.{at-most, same, other, le-cases, eq-cases, bound, same-got}
+use Rattle.error.proofs.Laws.{at-most, same, other, picked, le-cases, eq-cases, bound}
 use Rattle.bytes.specs.Number.{numberAt, little}
 use Rattle.bytes.specs.Part.{partOf, spanAt}
 use Rattle.bytes.specs.declared.Span.{Span}
 use Rattle.bytes.proofs.Laws.{part-little, part-number}
 use Rattle.arith.specs.Checked.{fitting, productOf}
-use Rattle.geometry.specs.BlockZero.{sizeOk, sizeIn, sizeAt, ringOf, geometryIn, geometryAt, areaAt}
+use Rattle.geometry.specs.BlockZero.{hasMagic, sizeOk, sizeIn, sizeAt, ringOf, geometryIn, geometryAt, areaAt}
 use Rattle.geometry.specs.declared.Geometry.{Geometry}
-use Rattle.checkpoints.proofs.Candidate.{never, same-inside, passed, number-read}
+use Rattle.checkpoints.proofs.Candidate.{magic-means, magic-if}
 use Rattle.nx.specs.LatestCheckpoint.{blockZero, BlockZeroRead, AreaRead}
+
+pub never : {A B : Type 0} {w : Refusal} {y : A} → no w ≡ got y → B
+never e = absurd (let z : _≡_ {A = ℕ} 0 1 = cc in omega arith)
+
+pub same-inside : {A : Type 0} {x y : A} → got x ≡ got y → x ≡ y
+same-inside e = cc
+
+-- both tests of an answer that was got
+pub held : {A : Type 0} (d : Bool) (x : Answer A) (w : Refusal) (y : A) → pick d x (no w) ≡ got y → (d ≡ true) × (x ≡ got y)
+held true x w y e = (refl, e)
+held false x w y e = never e
+
+-- a number that lies within the bytes is read
+pub number-read : (n : ℕ) (b : List ℕ) (off : ℕ) → off + n ≤ length b → numberAt n b off ≡ got (little n b off)
+unfolding numberAt
+number-read n b off h = sym (at-most _ _ _ _ _ h refl)
 
 pub number-got : (n : ℕ) (b : List ℕ) (off x : ℕ) → numberAt n b off ≡ got x → (off + n ≤ length b) × (x ≡ little n b off)
 unfolding numberAt
@@ -64,12 +81,12 @@ unfolding sizeAt sizeIn
 size-read image size e =
     let s = bound (spanAt Io (length image) 0 4096) _ size e in
     let w = span-got Io (length image) 0 4096 (s .0) (s .1 .0) in
-    let m = bound (numberAt 4 (partOf image (s .0)) 32) _ size (s .1 .1) in
-    let n = bound (numberAt 4 (partOf image (s .0)) 36) sizeOk size (same-got (m .0) 0x4253584E _ NotFound size (m .1 .1)) in
+    let m = held (hasMagic (partOf image (s .0))) _ NotFound size (s .1 .1) in
+    let n = bound (numberAt 4 (partOf image (s .0)) 36) sizeOk size (m .1) in
     let t = size-taken (n .0) size (n .1 .1) in
     record {
       first-bytes = omega (arith, w .0);
-      magic = at-front 4 image 4096 32 (m .0) (s .0) (w .1) (omega arith) (m .1 .0) ∙ passed (m .0) 0x4253584E _ NotFound size (m .1 .1);
+      magic = at-front 4 image 4096 32 0x4253584E (s .0) (w .1) (omega arith) (magic-means (partOf image (s .0)) (m .0));
       field = at-front 4 image 4096 36 (n .0) (s .0) (w .1) (omega arith) (n .1 .0) ∙ t .1;
       taken = rw (t .1) at (t .0);
     }
@@ -165,8 +182,9 @@ module _ (image : List ℕ) (r : BlockZeroRead image) where
   unfolding sizeAt sizeIn sizeOk
   size-if =
       let h = r .first-bytes in
-      rw (front-span 4096 h, front-number 4 4096 32 h (omega arith), front-number 4 4096 36 h (omega arith))
-      (sym (same _ _ _ _ _ (r .magic) (at-most _ _ _ _ _ (r .size-from) (at-most _ _ _ _ _ (r .size-to) (same _ _ _ _ _ (r .one-bit) refl)))))
+      let m : hasMagic (partOf image (front 4096)) ≡ true = magic-if (partOf image (front 4096)) (front-number 4 4096 32 h (omega arith) ∙ ap got (r .magic)) in
+      rw (front-span 4096 h, front-number 4 4096 36 h (omega arith))
+      (sym (picked _ _ _ _ m (at-most _ _ _ _ _ (r .size-from) (at-most _ _ _ _ _ (r .size-to) (same _ _ _ _ _ (r .one-bit) refl)))))
 
   geometry-if : geometryAt image ≡ got (blockZero image)
   unfolding geometryAt geometryIn ringOf blockZero

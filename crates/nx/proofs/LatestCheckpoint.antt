@@ -3,6 +3,7 @@ use Prim.Native.Nat.{ℕ, _+_, _-_, _*_, _/_, _%_, _^_, _≤_, _<_}
 use mathlib.Core.Path.{_≡_, refl, sym, ap, _∙_}
 use mathlib.Core.Bool.{Bool, true, false}
 use mathlib.Core.List.{List}
+use mathlib.Core.Option.{Option, none, some}
 use lib.ListN.{length}
 use native.Mathlib.Nat.{add-mul, mul-le-mul-right}
 use native.Mathlib.Omega.{arith}
@@ -19,14 +20,15 @@ use Rattle.geometry.specs.BlockZero.{geometryAt, areaAt}
 use Rattle.geometry.specs.declared.Geometry.{Geometry}
 use Rattle.checkpoints.specs.Superblock.{superblockAt}
 use Rattle.checkpoints.specs.Maps.{mapsFrom, mapsFit}
-use Rattle.checkpoints.specs.Checkpoint.{acceptedAt, blockPlace, latestIn, checkpointOf}
+use Rattle.checkpoints.specs.Checkpoint.{acceptedAt, blockPlace, latestIn, orCorrupt, checkpointOf}
 use Rattle.checkpoints.specs.declared.superblock.Superblock.{Superblock}
-use Rattle.checkpoints.proofs.Candidate.{same-inside, number-read, superblock-if, marked-facts, candidate-facts, candidate-if, accepted-facts, accepted-candidate}
+use Rattle.checkpoints.proofs.Candidate.{magic-means, magic-if, superblock-if, marked-facts, candidate-facts, candidate-if, accepted-facts, accepted-candidate}
+use Rattle.checkpoints.proofs.Asked.{same-some}
 use Rattle.checkpoints.proofs.Latest.{LatestOf, latest-of, none-of}
 use Rattle.nx.specs.Open.{supported, chosenOf, mappedOf, containerOf, openAt}
 use Rattle.nx.specs.declared.container.Container.{Container}
 use Rattle.nx.specs.LatestCheckpoint.{blockZero, size, placeOf, ringBlock, xidOf, superblockOf, Candidate, Latest, openedAs, Opens, at-latest, no-candidate, LatestCheckpoint}
-use Rattle.nx.proofs.BlockZero.{number-got, zero-read, area-got, read-means, read-if}
+use Rattle.nx.proofs.BlockZero.{same-inside, number-read, number-got, zero-read, area-got, read-means, read-if}
 use Rattle.nx.proofs.Objects.{headerOf, header-read}
 use Rattle.nx.proofs.MapBlocks.{maps-mean, maps-if}
 
@@ -49,7 +51,7 @@ module _ (image : List ℕ) (g : Geometry) (big : 4096 ≤ g .reader .«block_si
     long : length (ringBlock image g i) ≡ size image g
     long = part-length image (placeOf image g (g .base + i)) ends
 
-    read : superblockAt (ringBlock image g i) (placeOf image g (g .base + i)) ≡ got (superblockOf image g i)
+    read : superblockAt (ringBlock image g i) (placeOf image g (g .base + i)) ≡ some (superblockOf image g i)
     read =
         let b = ringBlock image g i in
         let l = long in
@@ -57,7 +59,7 @@ module _ (image : List ℕ) (g : Geometry) (big : 4096 ≤ g .reader .«block_si
         (number-read 4 b 136 (omega arith)) (number-read 4 b 140 (omega arith)) (number-read 8 b 160 (omega arith)) (number-read 4 b 180 (omega arith))
 
     abbrev Accepted : Superblock → Type 0
-    Accepted sb = acceptedAt (g .reader) image (g .ring) (placeOf image g (g .base + i)) ≡ got sb
+    Accepted sb = acceptedAt (g .reader) image (g .ring) (placeOf image g (g .base + i)) ≡ some sb
 
     fit : mapsFit (g .reader) image (superblockOf image g i .descriptors) (xidOf image g i) (g .ring) ≡ mapsFrom (g .reader) image (superblockOf image g i .descriptors) (xidOf image g i) (g .ring) (little 4 (ringBlock image g i) 140 - 1) 0
     unfolding mapsFit
@@ -70,14 +72,14 @@ module _ (image : List ℕ) (g : Geometry) (big : 4096 ≤ g .reader .«block_si
         let a = accepted-facts (g .reader) image (g .ring) place sb e in
         let c = candidate-facts b place sb (a .0) in
         let m = marked-facts b place sb (c .3) in
-        let q : superblockOf image g i ≡ sb = same-inside (sym read ∙ m .2) in
+        let q : superblockOf image g i ≡ sb = same-some (sym read ∙ m .2) in
         let l = long in
         let h : headerOf b ≡ c .0 = same-inside (sym (header-read b (omega arith)) ∙ c .1) in (
           q,
           record {
             inside = inside;
             kind = ap (λ (x : ObjHeader). kindOf x) h ∙ c .2;
-            magic = sym (number-got 4 b 32 0x4253584E (m .0) .1);
+            magic = sym (number-got 4 b 32 0x4253584E (magic-means b (m .0)) .1);
             checksum = m .1;
             maps = maps-mean image g i big (little 4 b 140 - 1) (sym fit ∙ (rw (← q) at (a .1)));
           },
@@ -89,17 +91,17 @@ module _ (image : List ℕ) (g : Geometry) (big : 4096 ≤ g .reader .«block_si
         let place = placeOf image g (g .base + i) in
         let l = long in
         accepted-candidate (g .reader) image (g .ring) place (superblockOf image g i)
-        (candidate-if b place (superblockOf image g i) (headerOf b) (header-read b (omega arith)) (c .kind) (number-read 4 b 32 (omega arith) ∙ ap got (c .magic)) (c .checksum) read)
+        (candidate-if b place (superblockOf image g i) (headerOf b) (header-read b (omega arith)) (c .kind) (magic-if b (number-read 4 b 32 (omega arith) ∙ ap got (c .magic))) (c .checksum) read)
         (fit ∙ maps-if image g i big (little 4 b 140 - 1) (c .maps))
 
   -- ---- the latest
-  taken : Answer Superblock
+  taken : Option Superblock
   taken = latestIn (g .reader) image (g .base * size image g) (g .ring) (g .ring) 0
 
   same-place : (j : ℕ) → blockPlace (g .reader) (g .base * size image g) j ≡ placeOf image g (g .base + j)
   same-place j = rw add-mul
 
-  latest-means : (sb : Superblock) → taken ≡ got sb → (i : ℕ) × Latest image g i × (superblockOf image g i ≡ sb)
+  latest-means : (sb : Superblock) → taken ≡ some sb → (i : ℕ) × Latest image g i × (superblockOf image g i ≡ sb)
   unfolding taken
   latest-means sb e =
       let l = latest-of (g .reader) image (g .base * size image g) (g .ring) (g .ring) 0 sb e in
@@ -116,21 +118,21 @@ module _ (image : List ℕ) (g : Geometry) (big : 4096 ≤ g .reader .«block_si
         a .0,
       )
 
-  none-means : (w : Refusal) → taken ≡ no w → (w ≡ Corrupt) × ((j : ℕ) → Candidate image g j → ⊥)
+  none-means : taken ≡ none → (j : ℕ) → Candidate image g j → ⊥
   unfolding taken
-  none-means w e =
-      let n = none-of (g .reader) image (g .base * size image g) (g .ring) (g .ring) 0 w e in
-      (n .0, λ j c. n .1 j (superblockOf image g j) (omega arith) (omega (arith, c .inside)) (rw (same-place j) (accepted-if j (c .inside) c)))
+  none-means e j c =
+      let n = none-of (g .reader) image (g .base * size image g) (g .ring) (g .ring) 0 e in
+      n j (superblockOf image g j) (omega arith) (omega (arith, c .inside)) (rw (same-place j) (accepted-if j (c .inside) c))
 
   -- ---- opening
-  opens : openAt image ≡ from 0 (taken >>= supported) (λ s. mappedOf image (g .reader) s) → Opens image g
+  opens : openAt image ≡ from 0 (orCorrupt taken >>= supported) (λ s. mappedOf image (g .reader) s) → Opens image g
   opens e = of taken refl
     where
-      of : (a : Answer Superblock) → taken ≡ a → Opens image g
-      of (got sb) t =
+      of : (a : Option Superblock) → taken ≡ a → Opens image g
+      of (some sb) t =
           let l = latest-means sb t in
           at-latest (l .0) (l .1) (e ∙ rw t (supported-opened image g sb ∙ ap (λ (s : Superblock). openedAs image g s) (sym (l .2))))
-      of (no w) t = let n = none-means w t in no-candidate (n .1) (e ∙ rw (t, n .0))
+      of none t = no-candidate (none-means t) (e ∙ rw t)
 
   pub opens-so : length image ≤ 2 ^ 34 → (start : ℕ) → geometryAt image ≡ got g → areaAt (length image) g ≡ got start → start ≡ g .base * size image g → Opens image g
   unfolding openAt containerOf chosenOf checkpointOf taken

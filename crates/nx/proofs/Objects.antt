@@ -1,14 +1,13 @@
 -- An object that is read, by its bytes.
 use Prim.Native.Nat.{ℕ, _+_, _-_, _*_, _^_, _≤_, _<_}
 use mathlib.Core.Path.{_≡_, refl, sym}
-use mathlib.Core.Bool.{Bool, true, false}
+use mathlib.Core.Bool.{true}
 use mathlib.Core.List.{List}
 use lib.ListN.{length}
 use native.Mathlib.Omega.{arith}
 use Rattle.error.specs.Answer.{Answer, got, no, pick}
-use Rattle.error.specs.declared.Refusal.{Refusal}
 use Rattle.error.specs.declared.Refusal.the-variants.{Io, Corrupt}
-use Rattle.error.proofs.Laws.{le-cases, eq-cases, bound, at-most, above, other, picked, picked-got}
+use Rattle.error.proofs.Laws.{le-cases, eq-cases, bound, at-most, above, other, picked}
 use Rattle.bytes.specs.Number.{little}
 use Rattle.bytes.specs.Part.{partOf, spanAt}
 use Rattle.bytes.specs.declared.Span.{Span}
@@ -18,8 +17,7 @@ use Rattle.obj.specs.Block.{blockAt, objectAt}
 use Rattle.obj.specs.Header.{headerAt}
 use Rattle.obj.specs.declared.header.ObjHeader.{ObjHeader}
 use Rattle.obj.specs.declared.reader.Reader.{Reader}
-use Rattle.checkpoints.proofs.Candidate.{never, same-inside, number-read}
-use Rattle.nx.proofs.BlockZero.{span-got, fitting-got}
+use Rattle.nx.proofs.BlockZero.{never, same-inside, held, number-read, span-got, fitting-got}
 
 -- the fields of a header that is read
 abbrev pub headerOf : List ℕ → ObjHeader
@@ -29,10 +27,6 @@ pub header-read : (b : List ℕ) → 32 ≤ length b → headerAt b ≡ got (hea
 unfolding headerAt
 header-read b h =
     rw (number-read 8 b 0 (omega arith), number-read 8 b 8 (omega arith), number-read 8 b 16 (omega arith), number-read 4 b 24 (omega arith), number-read 4 b 28 (omega arith))
-
-pub held : {A : Type 0} (d : Bool) (x : Answer A) (w : Refusal) (y : A) → pick d x (no w) ≡ got y → d ≡ true
-held true x w y e = refl
-held false x w y e = never e
 
 module _ (r : Reader) (image : List ℕ) (p : ℕ) where
   abbrev pub at : Span
@@ -62,9 +56,10 @@ module _ (r : Reader) (image : List ℕ) (p : ℕ) where
   unfolding objectAt
   object-read s e =
       let b = bound (blockAt r (length image) p) _ s e in
-      let q : b .0 ≡ s = same-inside (picked-got (valid (partOf image (b .0))) (got (b .0)) Corrupt s (b .1 .1)) in
+      let v = held (valid (partOf image (b .0))) (got (b .0)) Corrupt s (b .1 .1) in
+      let q : b .0 ≡ s = same-inside (v .1) in
       let f = block-read s (rw q at (b .1 .0)) in
-      (rw (q, f .place) at (held (valid (partOf image (b .0))) _ Corrupt s (b .1 .1)), f)
+      (rw (q, f .place) at (v .0), f)
 
   pub object-if : 0 < p → p < r .«block_count» → p * r .«block_size» ≤ 2 ^ 64 - 1 → p * r .«block_size» + r .«block_size» ≤ length image → valid (partOf image at) ≡ true → objectAt r image p ≡ got at
   unfolding objectAt blockAt productOf spanAt

@@ -10,13 +10,10 @@ size-in-spec =
     tie.close
     (tie.spec
     (λ c κs. search needs)
-    (λ c. search needs)
-    (λ c. search all)
     (λ c κs. search needs)
     (λ c. search needs)
     (λ c. search all)
     (λ c κs. search needs)
-    (λ c. search needs)
     (λ c. search needs)
     (λ c. search all)
     (λ c. search all)

@@ -10,11 +10,8 @@ marked-spec =
     tie.close
     (tie.spec
     (λ c κs. search needs)
-    (λ c. search needs)
-    (λ c. search all)
     (λ c κs. search needs)
     (λ c κs. search needs)
     (λ c. search all)
-    (λ c. search needs)
     (λ c. search all)
     (λ c. search all))

@@ -14,5 +14,8 @@ checkpoint-of-spec =
     (λ c. search needs)
     (λ c κs. search (needs, area-fits))
     (λ c. search needs)
+    (λ c. search needs)
+    (λ c. search needs)
+    (λ c. search all)
     (λ c. search all)
     (λ c. search all))

@@ -1,7 +1,7 @@
 use Prim.Native.Nat.{_+_, _-_, _*_, _^_, _≤_, _<_}
 use mathlib.Core.Path.{_≡_}
 use borrow.Author.Needs.{needs}
-use Rattle.checkpoints.specs.Superblock.{superTold}
+use Rattle.checkpoints.specs.Superblock.{foundTold}
 use Rattle.checkpoints.specs.Checkpoint.{latestIn}
 use Rattle.checkpoints.proofs.Choice.{latest-start, latest-turn, latest-done, block-scaled, block-starts}
 use Rattle.checkpoints.proofs.checkpoint.latest_checkpoint.Statement.{statement}
@@ -10,7 +10,7 @@ use Rattle.checkpoints.proofs.checkpoint.latest_checkpoint.Tie as tie
 ruleset turns = (needs, latest-start, latest-turn, latest-done, block-scaled, block-starts)
 
 abbrev Inv-loop : tie.InvT-loop
-Inv-loop reader image start ring size best₀ i₀ best i = (i ≤ ring) × (size ≡ reader .«block_size») × (start + ring * size < 2 ^ 64) × (superTold best ≡ latestIn reader image start ring (ring - i) i)
+Inv-loop reader image start ring size best₀ i₀ best i = (i ≤ ring) × (size ≡ reader .«block_size») × (start + ring * size < 2 ^ 64) × (foundTold best ≡ latestIn reader image start ring (ring - i) i)
 
 abbrev μ-loop : tie.MeasureT-loop
 μ-loop reader image start ring size best₀ i₀ best i = i

@@ -1,11 +1,11 @@
 use borrow.Author.Needs.{needs}
-use Rattle.checkpoints.specs.Maps.{mapAt}
+use Rattle.checkpoints.specs.Maps.{checkpointMapAt}
 use Rattle.checkpoints.proofs.Laws.{all, parts}
 use Rattle.checkpoints.proofs.maps.map_at.Statement.{statement}
 use Rattle.checkpoints.proofs.maps.map_at.Tie as tie
 
 pub map-at-spec : {M : Type 1} → statement M
-unfolding mapAt
+unfolding checkpointMapAt
 map-at-spec =
     tie.close
     (tie.spec

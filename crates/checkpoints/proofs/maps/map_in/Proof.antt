@@ -1,11 +1,11 @@
 use borrow.Author.Needs.{needs}
-use Rattle.checkpoints.specs.Maps.{mapIn}
+use Rattle.checkpoints.specs.Maps.{checkpointMapIn}
 use Rattle.checkpoints.proofs.Laws.{all}
 use Rattle.checkpoints.proofs.maps.map_in.Statement.{statement}
 use Rattle.checkpoints.proofs.maps.map_in.Tie as tie
 
 pub map-in-spec : {M : Type 1} → statement M
-unfolding mapIn
+unfolding checkpointMapIn
 map-in-spec =
     tie.close
     (tie.spec
