@@ -9,7 +9,7 @@ use Rattle.error.specs.Answer.{Answer, got, no, pick}
 use Rattle.error.proofs.Laws.{at-most}
 use Rattle.lines.specs.Shown.{InodeShown, EntryShown, AttributeShown, Contents, packed, plain}
 use Rattle.demand.specs.Trace.{End, done, stop, Trace, says, goOn, _then_, reading, textOr, within}
-use Rattle.demand.specs.Tree.{Tree, node, Entries, none, entry, ofVolume}
+use Rattle.demand.proofs.Tree.{Tree, node, Entries, none, entry, ofVolume}
 use Rattle.demand.specs.View.{View}
 use Rattle.demand.specs.Listing.{attributeLines, isPacked, dataLine, entryForms, nodeForm, trace, listing, levels}
 use Rattle.demand.proofs.Shows.{heads, heard, ShowsContents, ShowsNode, Shows, ShowsAll, Listed, trace-done}

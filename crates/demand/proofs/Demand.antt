@@ -1,20 +1,20 @@
 -- The third demand, proved: what it says stands in specs/Demand.antt, with all that it names.
 use Prim.Native.Nat.{ℕ, _-_, _^_}
-use mathlib.Core.Path.{_≡_, refl, sym, ap, subst, _∙_}
-use mathlib.Core.Logic.{_↔_, _⊎_, inl, inr}
+use mathlib.Core.Path.{_≡_, refl, sym, subst, _∙_}
+use mathlib.Core.Logic.{_⊎_, inl, inr}
 use mathlib.Core.Bool.{true}
 use mathlib.Core.List.{List, [], _∷_, map}
 use native.Mathlib.Omega.{arith}
-use Rattle.error.specs.Answer.{Answer, got, no, _>>=_}
+use Rattle.error.specs.Answer.{Answer, got, _>>=_}
 use Rattle.error.proofs.Laws.{bound}
 use Rattle.volume.specs.Open.{volumeOfImage}
 use Rattle.volume.specs.declared.Volume.{Volume}
-use Rattle.lines.specs.Shown.{InodeShown, EntryShown, AttributeShown, Contents, packed, plain}
+use Rattle.lines.specs.Shown.{InodeShown, AttributeShown, Contents, packed, plain}
 use Rattle.demand.specs.View.{View}
 use Rattle.demand.specs.Listing.{isPacked, listing}
 use Rattle.demand.specs.Lookup.{lookup}
-use Rattle.demand.specs.Demand.{Bytes, viewOf, viewAt, listingOf, lookupOf, Met, nowhere, here, chain, Same, SameTo, SameVolumes, SameVolumesTo, Answered, AllAnswered, Unrefused, past-end, at-inode, UnrefusedOn, ThirdDemand}
-use Rattle.demand.proofs.Shows.{heard, ShowsContents, ShowsNode, listing-done}
+use Rattle.demand.specs.Demand.{Bytes, viewOf, viewAt, listingOf, lookupOf, Met, chain, Answered, AllAnswered, Unrefused, past-end, at-inode, Lister, DemandOn, ThirdDemand}
+use Rattle.demand.proofs.Shows.{heard, ShowsContents, listing-done}
 use Rattle.demand.proofs.Walks.{Reads, Ends, ends-past, ends-on, ends}
 use Rattle.demand.proofs.Views.{listings-same, lookups-same}
 use Rattle.demand.proofs.Callable.{Short, listings-same-to}
@@ -23,27 +23,10 @@ use Rattle.demand.proofs.Reading.{volume-reads, volume-short}
 use Rattle.demand.proofs.Lookups.{lookup-of-view, opened-small}
 
 -- what is known where a listing was not refused: the volume was opened, and the listing is that of its view
-record Listed (image : List ℕ) (index room : ℕ) (t : List ℕ) : Type 0 where
-  view : View
-  opened : viewAt image index ≡ got view
-  lists : listing view room ≡ got t
-  reads : Reads view
-  short : Bytes image → Short (2 ^ 64 - 1) view
-
-listed : (image : List ℕ) (index room : ℕ) (t : List ℕ) → listingOf image index room ≡ got t → Listed image index room t
-unfolding listingOf viewAt
-listed image index room t e =
-    let a = bound (viewAt image index) (λ v. listing v room) t e in
-    let b = bound (volumeOfImage image index .answer) (λ v. got (viewOf image v)) (a .0) (a .1 .0) in
-    let q : viewOf image (b .0) ≡ a .0 = got-same _ (a .0) (b .1 .1) in
-    let small = opened-small image index (b .0) (b .1 .0) in
-    record {
-      view = a .0;
-      opened = a .1 .0;
-      lists = a .1 .1;
-      reads = subst Reads q (volume-reads image (b .0) (omega arith));
-      short = λ h. subst (Short (2 ^ 64 - 1)) q (volume-short image (b .0) h);
-    }
+record Listed (view : List ℕ → ℕ → Answer View) (image : List ℕ) (index room : ℕ) (t : List ℕ) : Type 0 where
+  it : View
+  opened : view image index ≡ got it
+  lists : listing it room ≡ got t
 
 all-answered : (l : List (AttributeShown (List ℕ))) → AllAnswered (map heard l)
 all-answered [] = tt
@@ -61,21 +44,53 @@ ends-unrefused v m (ends-on i f l d es s s′ h k) =
 no-refusal : (v : View) (m : ℕ) (t : List ℕ) → listing v m ≡ got t → (c : List ℕ) → Unrefused v (chain v c)
 no-refusal v m t p c = let a = listing-done v m p in ends-unrefused v (chain v c) (ends v v c 2 (a .tree) (a .shows) (a .shows))
 
+-- the listing of what is answered meets the demand wherever the law of file reads holds, and lookups go by what is answered
+module _ (view : List ℕ → ℕ → Answer View) (find : List ℕ → ℕ → List ℕ → Answer InodeShown) (lister : Lister)
+    (lists : (image : List ℕ) (index room : ℕ) → lister image index room ≡ (view image index >>= λ v. listing v room))
+    (finds : (image : List ℕ) (index : ℕ) (path : List ℕ) → find image index path ≡ (view image index >>= λ v. lookup v path))
+    (reads : (image : List ℕ) (index : ℕ) (v : View) → view image index ≡ got v → Reads v)
+    (short : (image : List ℕ) (index : ℕ) (v : View) → view image index ≡ got v → Bytes image → Short (2 ^ 64 - 1) v) where
+  listed : (image : List ℕ) (index room : ℕ) (t : List ℕ) → lister image index room ≡ got t → Listed view image index room t
+  listed image index room t e =
+      let a = bound (view image index) (λ v. listing v room) t (sym (lists image index room) ∙ e) in
+      record { it = a .0; opened = a .1 .0; lists = a .1 .1 }
+
+  pub demand-met : DemandOn view find lister
+  demand-met = record {
+    listings = λ a b i j m n t u p q.
+        let x = listed a i m t p in
+        let y = listed b j n u q in
+        rw (x .opened, y .opened)
+        (listings-same (x .it) (y .it) m n t u (reads a i (x .it) (x .opened)) (reads b j (y .it) (y .opened)) (x .lists) (y .lists));
+    listings-to = λ a b i j m n t u k l p q.
+        let x = listed a i m t p in
+        let y = listed b j n u q in
+        rw (x .opened, y .opened)
+        (listings-same-to (2 ^ 64 - 1) (x .it) (y .it) m n t u (reads a i (x .it) (x .opened)) (reads b j (y .it) (y .opened))
+        (short a i (x .it) (x .opened) k) (short b j (y .it) (y .opened) l) (x .lists) (y .lists));
+    lookups = λ a b i j m n t u p q e path.
+        let x = listed a i m t p in
+        let y = listed b j n u q in
+        rw (finds a i path, finds b j path, x .opened, y .opened) (lookups-same (x .it) (y .it) m n t u (x .lists) (y .lists) e path);
+    unrefused = λ a i m t p c. let x = listed a i m t p in rw (x .opened) (no-refusal (x .it) m t (x .lists) c);
+  }
+
+module _ (image : List ℕ) (index : ℕ) (v : View) (h : viewAt image index ≡ got v) where
+  opened-volume : (w : Volume) × ((volumeOfImage image index .answer ≡ got w) × (viewOf image w ≡ v))
+  unfolding viewAt
+  opened-volume =
+      let b = bound (volumeOfImage image index .answer) (λ w. got (viewOf image w)) v h in
+      (b .0, (b .1 .0, got-same _ v (b .1 .1)))
+
+  opened-reads : Reads v
+  opened-reads =
+      let b = opened-volume in
+      let small = opened-small image index (b .0) (b .1 .0) in
+      subst Reads (b .1 .1) (volume-reads image (b .0) (omega arith))
+
+  opened-short : Bytes image → Short (2 ^ 64 - 1) v
+  opened-short k = let b = opened-volume in subst (Short (2 ^ 64 - 1)) (b .1 .1) (volume-short image (b .0) k)
+
 pub third-demand : ThirdDemand
-third-demand = record {
-  listings = λ a b i j m n t u p q.
-      let x = listed a i m t p in
-      let y = listed b j n u q in
-      rw (x .opened, y .opened) (listings-same (x .view) (y .view) m n t u (x .reads) (y .reads) (x .lists) (y .lists));
-  listings-to = λ a b i j m n t u k l p q.
-      let x = listed a i m t p in
-      let y = listed b j n u q in
-      rw (x .opened, y .opened)
-      (listings-same-to (2 ^ 64 - 1) (x .view) (y .view) m n t u (x .reads) (y .reads) (x .short k) (y .short l) (x .lists) (y .lists));
-  lookups = λ a b i j m n t u p q e path.
-      let x = listed a i m t p in
-      let y = listed b j n u q in
-      rw (lookup-of-view a i path, lookup-of-view b j path, x .opened, y .opened)
-      (lookups-same (x .view) (y .view) m n t u (x .lists) (y .lists) e path);
-  unrefused = λ a i m t p c. let x = listed a i m t p in rw (x .opened) (no-refusal (x .view) m t (x .lists) c);
-}
+unfolding listingOf
+third-demand = demand-met viewAt lookupOf listingOf (λ image index room. refl) lookup-of-view opened-reads opened-short

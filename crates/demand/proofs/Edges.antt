@@ -1,30 +1,29 @@
 -- Where the demand would not hold if less were supposed.
 use Prim.Native.Nat.{ℕ}
-use mathlib.Core.Path.{_≡_, refl, sym, ap, _∙_}
-use mathlib.Core.Bool.{Bool, true, false}
+use mathlib.Core.Path.{_≡_, refl, ap, _∙_}
+use mathlib.Core.Bool.{true, false}
 use mathlib.Core.List.{List, [], _∷_}
 use native.Mathlib.Omega.{arith}
 use lib.ListN.{take, drop}
 use lib.Seq.{take-nil, drop-nil}
 use Rattle.error.specs.Answer.{Answer, got, no, ifLe}
 use Rattle.error.specs.declared.Refusal.the-variants.{Corrupt, Unsupported}
-use Rattle.text.specs.Words.{ascii, places, digits, signed, glyph, pairs}
-use Rattle.paths.specs.declared.names.NameRule.{NameRule}
-use Rattle.lines.specs.Shown.{InodeShown, EntryShown, AttributeShown}
+use Rattle.text.specs.Words.{ascii, places, digits, signed, pairs}
+use Rattle.lines.specs.Shown.{InodeShown}
 use Rattle.lines.specs.Lines.{volumeLine, nodeLine, contentsLine, close}
 use Rattle.demand.specs.Trace.{_then_, reading, within}
 use Rattle.demand.specs.View.{View}
 use Rattle.demand.specs.Listing.{attributeLines, isPacked, dataLine, entryForms, nodeForm, trace, listing}
-use Rattle.demand.specs.Demand.{Met, here, nowhere, refused, place, onward, follow, chain, Agree, past, on, Same}
+use Rattle.demand.specs.Demand.{here, place, onward, follow, chain, Agree, past, on, Same}
+use Rattle.demand.specs.Listers.{smallInode}
 use Rattle.demand.proofs.Walks.{Reads, follow-nowhere}
-use Rattle.demand.proofs.Examples.{fields}
 
 -- one node, an empty directory
 abbrev lone : ℕ → Answer (List ℕ) → Answer (List ℕ) → View
 lone bsd contents read = record {
   label = [];
   rule = record { caseless = false; normless = false };
-  inode = λ i. got (fields bsd i);
+  inode = λ i. got (smallInode bsd i);
   entries = λ i. got [];
   attributes = λ i. got [];
   contents = λ i. contents;
@@ -37,7 +36,7 @@ unfolding follow onward place
 lone-same bsd c d r = record { label = refl; rule = refl; chains = go }
   where
     go : (x : List ℕ) → Agree (lone bsd c r) (lone bsd d r) (chain (lone bsd c r) x) (chain (lone bsd d r) x)
-    go [] = on (fields bsd 2) refl refl refl refl (λ off len. refl)
+    go [] = on (smallInode bsd 2) refl refl refl refl (λ off len. refl)
     go (k ∷ x) = past (follow-nowhere _ x) (follow-nowhere _ x)
 
 -- 1. Both listings must be without refusal. An empty file whose extents overlap: it reads as any empty file, the volumes are the same,
@@ -48,9 +47,9 @@ clean = lone 0 (got []) (got [])
 abbrev tangled : View
 tangled = lone 0 (no Corrupt) (got [])
 
-unpacked : (i : ℕ) (f : InodeShown) → got (fields 0 i) ≡ got f → isPacked f ≡ true → ⊥
+pub unpacked : (i : ℕ) (f : InodeShown) → got (smallInode 0 i) ≡ got f → isPacked f ≡ true → ⊥
 unpacked i f h p =
-    let e : fields 0 i ≡ f = cc in
+    let e : smallInode 0 i ≡ f = cc in
     let k : false ≡ true = ap (λ (g : InodeShown). isPacked g) e ∙ p in
     let z : _≡_ {A = ℕ} 0 1 = cc in omega arith
 
@@ -93,6 +92,6 @@ packed-differ : Same (packed-as 0) (packed-as 1) → ⊥
 unfolding follow
 packed-differ s = go (s .chains [])
   where
-    go : Agree (packed-as 0) (packed-as 1) (here (fields 32 2)) (here (fields 32 2)) → ⊥
+    go : Agree (packed-as 0) (packed-as 1) (here (smallInode 32 2)) (here (smallInode 32 2)) → ⊥
     go (past p q) = let z : _≡_ {A = ℕ} 0 1 = cc in omega arith
     go (on f p q e a r) = let h = r 0 1 in let z : _≡_ {A = ℕ} 0 1 = cc in omega arith

@@ -1,42 +1,20 @@
 -- The definitions at work.
 use Prim.Native.Nat.{ℕ, _+_, _-_}
 use mathlib.Core.Path.{_≡_, refl}
-use mathlib.Core.Bool.{Bool, true, false, cond}
+use mathlib.Core.Bool.{true, false, cond}
 use mathlib.Core.List.{List, [], _∷_}
-use mathlib.Core.Option.{Option, none, some}
-use lib.IntN.{pos, negsuc}
 use lib.Dec.{eqb, ltb}
 use lib.ListN.{take, drop, length}
-use Rattle.error.specs.Answer.{Answer, got, no, ifLe, ifEq}
-use Rattle.error.specs.declared.Refusal.the-variants.{Corrupt, NotFound, BufferTooShort, Overflow, CharacterNotCovered, TooDeep}
+use Rattle.error.specs.Answer.{Answer, got, no, ifLe}
+use Rattle.error.specs.declared.Refusal.the-variants.{Corrupt, BufferTooShort, Overflow, TooDeep}
 use Rattle.text.specs.Words.{ascii, places, digits, signed, glyph, pairs}
-use Rattle.lines.specs.Shown.{InodeShown, EntryShown, AttributeShown}
+use Rattle.lines.specs.Shown.{EntryShown, AttributeShown}
 use Rattle.lines.specs.Lines.{volumeLine, nodeLine, contentsLine, entryLine, close}
 use Rattle.demand.specs.Trace.{done, stop, _then_, reading, within}
 use Rattle.demand.specs.View.{View}
 use Rattle.demand.specs.Listing.{attributeLines, dataLine, entryForms, nodeForm, trace, listing}
-use Rattle.demand.specs.Demand.{Met, here, nowhere, place, onward, follow, chain}
-use Rattle.demand.proofs.Walks.{Reads}
-
--- a directory with nothing but its flags
-abbrev pub fields : ℕ → ℕ → InodeShown
-fields bsd i = record {
-  id = i;
-  parent = 1;
-  own = i;
-  create = 0;
-  modify = 0;
-  change = 0;
-  access = 0;
-  iflags = 0;
-  links = pos 0;
-  bsd = bsd;
-  owner = 0;
-  group = 0;
-  mode = 16877;
-  label = none;
-  stream = none;
-}
+use Rattle.demand.specs.Demand.{here, nowhere, place, onward, follow, chain}
+use Rattle.demand.specs.Listers.{smallInode}
 
 abbrev child : ℕ → List ℕ → EntryShown
 child i l = record { id = i; date = 7; kind = 4; label = l }
@@ -46,7 +24,7 @@ abbrev plain : (ℕ → Answer (List EntryShown)) → (ℕ → Answer (List (Att
 plain es l = record {
   label = 65 ∷ [];
   rule = record { caseless = true; normless = false };
-  inode = λ i. got (fields 0 i);
+  inode = λ i. got (smallInode 0 i);
   entries = es;
   attributes = l;
   contents = λ i. got [];
@@ -100,11 +78,11 @@ faulty-short = refl
 abbrev some-dirs : View
 some-dirs = plain (λ i. got (cond (eqb i 2) (child 5 (98 ∷ []) ∷ child 6 (65 ∷ []) ∷ []) (cond (eqb i 5) (child 7 (195 ∷ 169 ∷ []) ∷ []) []))) (λ i. got [])
 
-chain-root : chain some-dirs [] ≡ here (fields 0 2)
+chain-root : chain some-dirs [] ≡ here (smallInode 0 2)
 unfolding follow onward place
 chain-root = refl
 
-chain-down : chain some-dirs (0 ∷ 0 ∷ []) ≡ here (fields 0 7)
+chain-down : chain some-dirs (0 ∷ 0 ∷ []) ≡ here (smallInode 0 7)
 unfolding follow onward place
 chain-down = refl
 

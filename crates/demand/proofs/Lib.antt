@@ -1,3 +1,4 @@
+pub mod Tree
 pub mod Codes
 pub mod TreeLaws
 pub mod Shows
@@ -13,3 +14,4 @@ pub mod Lookups
 pub mod Demand
 pub mod Edges
 pub mod Examples
+pub mod Listers

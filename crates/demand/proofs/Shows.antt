@@ -13,7 +13,7 @@ use Rattle.error.proofs.Laws.{le-cases}
 use Rattle.lines.specs.Shown.{InodeShown, EntryShown, AttributeShown, Contents, packed, plain}
 use Rattle.lines.specs.Lines.{nodeLine, attributeLine, contentsLine, entryLine, close}
 use Rattle.demand.specs.Trace.{End, done, stop, Trace, says, refuses, goOn, _then_, reading, textOr, within}
-use Rattle.demand.specs.Tree.{Tree, node, Entries, none, entry, ofAttributes, ofTree, ofEntries, ofVolume}
+use Rattle.demand.proofs.Tree.{Tree, node, Entries, none, entry, ofAttributes, ofTree, ofEntries, ofVolume}
 use Rattle.demand.specs.View.{View}
 use Rattle.demand.specs.Listing.{holding, attributeLines, isPacked, dataLine, entryForms, nodeForm, trace, listing, levels}
 use Rattle.demand.proofs.TreeLaws.{Writes, volume-writes, node-writes, attribute-writes, contents-writes, entry-writes, close-writes, _next_}

@@ -9,7 +9,7 @@ use Rattle.paths.specs.declared.names.NameRule.{NameRule}
 use Rattle.lines.specs.Shown.{InodeShown, EntryShown, AttributeShown, Form, embedded, streamed, Contents, packed, plain}
 use Rattle.lines.specs.Lines.{bit, volumeLine, nodeLine, formText, attributeLine, contentsLine, entryLine, close}
 use Rattle.lines.proofs.After.{volume-append, node-append, attribute-append, contents-append, entry-append, close-append}
-use Rattle.demand.specs.Tree.{Tree, node, Entries, none, entry, ofAttributes, ofTree, ofEntries, ofVolume}
+use Rattle.demand.proofs.Tree.{Tree, node, Entries, none, entry, ofAttributes, ofTree, ofEntries, ofVolume}
 use Rattle.demand.proofs.Codes.{Code, num, int, hex, name, two, _&_, as-parts, same, apart}
 
 abbrev fieldsCode : Code InodeShown

@@ -11,7 +11,7 @@ use Rattle.error.specs.declared.Refusal.the-variants.{PathNotUtf8}
 use Rattle.utf8.specs.Text.{strict}
 use Rattle.paths.specs.Parts.{partsOf}
 use Rattle.lines.specs.Shown.{InodeShown, EntryShown, AttributeShown, Contents}
-use Rattle.demand.specs.Tree.{Tree, ofVolume}
+use Rattle.demand.proofs.Tree.{Tree, ofVolume}
 use Rattle.demand.specs.View.{View}
 use Rattle.demand.specs.Listing.{listing}
 use Rattle.demand.specs.Lookup.{descend, lookup}

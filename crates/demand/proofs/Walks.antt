@@ -14,7 +14,7 @@ use Rattle.paths.specs.Names.{insensitive, wide, sameKeys}
 use Rattle.paths.specs.Find.{exactMatch, keyMatch, findEntry}
 use Rattle.paths.specs.declared.names.NameRule.{NameRule}
 use Rattle.lines.specs.Shown.{InodeShown, EntryShown, AttributeShown, Contents, packed, plain}
-use Rattle.demand.specs.Tree.{Tree, node, Entries, none, entry}
+use Rattle.demand.proofs.Tree.{Tree, node, Entries, none, entry}
 use Rattle.demand.specs.View.{View}
 use Rattle.demand.specs.Listing.{holding, isPacked}
 use Rattle.demand.specs.Lookup.{entryLabel, descend}

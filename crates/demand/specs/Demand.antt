@@ -7,6 +7,7 @@
 --   2. the same with reads compared only at offsets and lengths up to 2^64 − 1, which are all that a caller can ask;
 --   3. where the texts are equal, every path, of any bytes, gets the same answer or the same refusal from both.
 -- And 4. under a listing that is not refused no chain meets a refusal, nor do the entries, attributes and contents where it leads.
+-- That is said of any lister (`DemandOn`), and of ours (`ThirdDemand`); which listers it shuts out stands in Listers.antt.
 --
 -- Of which calls: opening (`volumeOfImage`), `inode`, `read_dir`, `xattrs`, `read_xattr`, `read_at` and `lookup_path` by the definitions that their
 -- contracts cite (`inodeOf`, `entriesOf`, `attributesOf`, `contentsOf`, `readFile`, `lookupPath`), and the listing by `listingOf`. Names and the label are
@@ -24,7 +25,7 @@ use lib.ListN.{getD}
 use Rattle.error.specs.Answer.{Answer, got, no, _>>=_}
 use Rattle.error.specs.declared.Refusal.{Refusal}
 use Rattle.utf8.specs.Text.{lossy}
-use Rattle.lookup.specs.Counted.{Counted, after, onto}
+use Rattle.lookup.specs.Counted.{after, onto}
 use Rattle.volume.specs.Open.{volumeOfImage}
 use Rattle.volume.specs.declared.Volume.{Volume}
 use Rattle.records.specs.declared.attribute.Attribute.{Attribute}
@@ -191,15 +192,24 @@ abbrev pub UnrefusedOn : Answer View → List ℕ → Type 0
 UnrefusedOn (got v) c = Unrefused v (chain v c)
 UnrefusedOn (no e) c = ⊥
 
-pub record ThirdDemand : Type 0 where
+-- a lister: of an image, a volume's index and a buffer's length, a text or a refusal
+abbrev pub Lister : Type 0
+Lister = List ℕ → ℕ → ℕ → Answer (List ℕ)
+
+-- the demand on any lister, where `view` is what the volume at an index of an image answers, and `find` what a path looked up there gets
+pub record DemandOn (view : List ℕ → ℕ → Answer View) (find : List ℕ → ℕ → List ℕ → Answer InodeShown) (lister : Lister) : Type 0 where
   -- 1. equal texts exactly where the volumes are the same
-  pub listings : (a b : List ℕ) (i j m n : ℕ) (t u : List ℕ) → listingOf a i m ≡ got t → listingOf b j n ≡ got u
-      → (t ≡ u) ↔ SameVolumes (viewAt a i) (viewAt b j)
+  pub listings : (a b : List ℕ) (i j m n : ℕ) (t u : List ℕ) → lister a i m ≡ got t → lister b j n ≡ got u
+      → (t ≡ u) ↔ SameVolumes (view a i) (view b j)
   -- 2. the same for the reads that a caller can ask
-  pub listings-to : (a b : List ℕ) (i j m n : ℕ) (t u : List ℕ) → Bytes a → Bytes b → listingOf a i m ≡ got t → listingOf b j n ≡ got u
-      → (t ≡ u) ↔ SameVolumesTo (2 ^ 64 - 1) (viewAt a i) (viewAt b j)
+  pub listings-to : (a b : List ℕ) (i j m n : ℕ) (t u : List ℕ) → Bytes a → Bytes b → lister a i m ≡ got t → lister b j n ≡ got u
+      → (t ≡ u) ↔ SameVolumesTo (2 ^ 64 - 1) (view a i) (view b j)
   -- 3. every path gets the same answer, or the same refusal
-  pub lookups : (a b : List ℕ) (i j m n : ℕ) (t u : List ℕ) → listingOf a i m ≡ got t → listingOf b j n ≡ got u → t ≡ u
-      → (path : List ℕ) → lookupOf a i path ≡ lookupOf b j path
+  pub lookups : (a b : List ℕ) (i j m n : ℕ) (t u : List ℕ) → lister a i m ≡ got t → lister b j n ≡ got u → t ≡ u
+      → (path : List ℕ) → find a i path ≡ find b j path
   -- 4. no chain meets a refusal
-  pub unrefused : (a : List ℕ) (i m : ℕ) (t : List ℕ) → listingOf a i m ≡ got t → (c : List ℕ) → UnrefusedOn (viewAt a i) c
+  pub unrefused : (a : List ℕ) (i m : ℕ) (t : List ℕ) → lister a i m ≡ got t → (c : List ℕ) → UnrefusedOn (view a i) c
+
+-- of the listing, on volumes opened from images
+abbrev pub ThirdDemand : Type 0
+ThirdDemand = DemandOn viewAt lookupOf listingOf

@@ -32,24 +32,32 @@ unfoldable pub entryForms : (ℕ → Trace) → List EntryShown → Trace
 entryForms form [] = says []
 entryForms form (e ∷ es) = says (entryLine e []) then form e.id then says (close []) then entryForms form es
 
--- the node of that id, where so many levels are left, its own counted: "10 (added) a listing node deeper than 64, after its entry's line and before
--- its inode is read"; "After a node's line, all its attributes, then all its entries, are read before the first of them is written"
-unfoldable pub nodeForm : View → ℕ → ℕ → Trace
-nodeForm v zero i = refuses TooDeep
-nodeForm v (suc d) i =
+-- the node of that id, with `below` for the nodes of its entries: "After a node's line, all its attributes, then all its entries, are read before the
+-- first of them is written"
+abbrev pub formOver : View → (ℕ → Trace) → ℕ → Trace
+formOver v below i =
     reading (v.inode i) λ f.
     says (nodeLine f []) then
     reading (v.attributes f.id) λ l.
     reading (v.entries f.id) λ es.
-    attributeLines l then dataLine v f then entryForms (nodeForm v d) es then says (close [])
+    attributeLines l then dataLine v f then entryForms below es then says (close [])
+
+-- the node of that id, where so many levels are left, its own counted: "10 (added) a listing node deeper than 64, after its entry's line and before
+-- its inode is read"
+unfoldable pub nodeForm : View → ℕ → ℕ → Trace
+nodeForm v zero i = refuses TooDeep
+nodeForm v (suc d) i = formOver v (nodeForm v d) i
 
 -- "the root is at depth 0", and the deepest node at 64
 abbrev pub levels : ℕ
 levels = 65
 
 -- "`(volume C N LABEL` .. Then the root's node form, then `)`"
+abbrev pub volumeOver : View → Trace → Trace
+volumeOver v root = says (volumeLine (v.rule .caseless) (v.rule .normless) v.label []) then root then says (close [])
+
 unfoldable pub trace : View → Trace
-trace v = says (volumeLine (v.rule .caseless) (v.rule .normless) v.label []) then nodeForm v levels 2 then says (close [])
+trace v = volumeOver v (nodeForm v levels 2)
 
 -- a listing into a buffer of `room` bytes
 unfoldable pub listing : View → ℕ → Answer (List ℕ)

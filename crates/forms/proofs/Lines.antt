@@ -1,7 +1,7 @@
 -- The lines of a node's form, by what is read for them.
 use Prim.Native.Nat.{ℕ}
 use mathlib.Core.Path.{_≡_, refl, sym, ap, _∙_}
-use mathlib.Core.List.{List, [], _∷_, _++_}
+use mathlib.Core.List.{List, [], _++_}
 use borrow.Author.Needs.{needs}
 use Rattle.error.specs.Answer.{Answer, got, no}
 use Rattle.error.specs.declared.Refusal.{Refusal}
@@ -11,7 +11,7 @@ use Rattle.obj.specs.declared.reader.Reader.{Reader}
 use Rattle.lookup.specs.Counted.{Counted, after, onto}
 use Rattle.utf8.specs.Text.{lossy}
 use Rattle.text.specs.Output.{Output, refused, outputOf, puts}
-use Rattle.text.specs.Words.{pairs}
+use Rattle.text.specs.Words.{ascii, pairs}
 use Rattle.text.proofs.Digits.{pairs-append}
 use Rattle.text.proofs.Writing.{puts-append}
 use Rattle.volume.specs.declared.Volume.{Volume}
@@ -32,35 +32,35 @@ use Rattle.contents.proofs.Plain.{plain-settled}
 use Rattle.links.specs.Link.{contentsBy, contentsOf}
 use Rattle.lines.specs.Shown.{attributeShown, formShown, plain}
 use Rattle.lines.specs.Shown as shown
-use Rattle.lines.specs.Lines.{attributeHead, attributeLine, contentsLine}
+use Rattle.lines.specs.Lines.{attributeLine, contentsLine}
+use Rattle.lines.specs.Inner.{attributeHead}
 use Rattle.lines.proofs.After.{attribute-texts}
 use Rattle.demand.specs.Trace.{Trace, stop, says, _then_, reading}
-use Rattle.forms.specs.Run.{ending, run}
-use Rattle.forms.specs.Forms.{attributeTrace, streamTrace, plainTrace, dataTrace}
+use Rattle.forms.specs.Inner.{ending, run, attributeTrace, streamTrace, plainTrace, dataTrace}
 use Rattle.forms.proofs.Running.{run-says, reading-got, reading-no}
 
 -- a line with contents that are written piece by piece
 pub streamed-line : (room : ℕ) (o h x z : Output) (r : Reader) (b : List ℕ) (a : Attribute) (c : List ℕ) → h ≡ puts room (attributeHead (a .flags) (lossy (attributeName r b a)) (formShown (a .contents)) []) o
-    → x ≡ puts room (pairs c []) h → z ≡ puts room (41 ∷ 10 ∷ []) x → z ≡ puts room (attributeLine (attributeShown r b a c) []) o
+    → x ≡ puts room (pairs c []) h → z ≡ puts room (ascii ")\n" []) x → z ≡ puts room (attributeLine (attributeShown r b a c) []) o
 unfolding attributeShown
 streamed-line room o h x z r b a c p q e =
-    e ∙ rw (q, p, ← puts-append room (pairs c []) (41 ∷ 10 ∷ []) _, ← puts-append room (attributeHead (a .flags) (lossy (attributeName r b a)) (formShown (a .contents)) []) _ o, attribute-texts (attributeShown r b a c))
+    e ∙ rw (q, p, ← puts-append room (pairs c []) (ascii ")\n" []) _, ← puts-append room (attributeHead (a .flags) (lossy (attributeName r b a)) (formShown (a .contents)) []) _ o, attribute-texts (attributeShown r b a c))
 
-data-texts : (c : List ℕ) → (40 ∷ 100 ∷ 97 ∷ 116 ∷ 97 ∷ 32 ∷ 120 ∷ []) ++ (pairs c [] ++ (41 ∷ 10 ∷ [])) ≡ contentsLine (plain c) []
+data-texts : (c : List ℕ) → (ascii "(data x" []) ++ (pairs c [] ++ (ascii ")\n" [])) ≡ contentsLine (plain c) []
 unfolding contentsLine
-data-texts c = ap (λ (t : List ℕ). 40 ∷ 100 ∷ 97 ∷ 116 ∷ 97 ∷ 32 ∷ 120 ∷ t) (sym (pairs-append c [] (41 ∷ 10 ∷ [])))
+data-texts c = ap (λ (t : List ℕ). ascii "(data x" t) (sym (pairs-append c [] (ascii ")\n" [])))
 
-bytes-line : (room : ℕ) (o h x z : Output) (c : List ℕ) → h ≡ puts room (40 ∷ 100 ∷ 97 ∷ 116 ∷ 97 ∷ 32 ∷ 120 ∷ []) o → x ≡ puts room (pairs c []) h → z ≡ puts room (41 ∷ 10 ∷ []) x
+bytes-line : (room : ℕ) (o h x z : Output) (c : List ℕ) → h ≡ puts room (ascii "(data x" []) o → x ≡ puts room (pairs c []) h → z ≡ puts room (ascii ")\n" []) x
     → z ≡ puts room (contentsLine (plain c) []) o
 bytes-line room o h x z c p q e =
-    e ∙ rw (q, p, ← puts-append room (pairs c []) (41 ∷ 10 ∷ []) _, ← puts-append room (40 ∷ 100 ∷ 97 ∷ 116 ∷ 97 ∷ 32 ∷ 120 ∷ []) _ o, data-texts c)
+    e ∙ rw (q, p, ← puts-append room (pairs c []) (ascii ")\n" []) _, ← puts-append room (ascii "(data x" []) _ o, data-texts c)
 
-pub file-line : (room : ℕ) (b : List ℕ) (v : Volume) (i : Inode) (size : ℕ) (o h x z : Output) → size ≡ sizeOf i → h ≡ puts room (40 ∷ 100 ∷ 97 ∷ 116 ∷ 97 ∷ 32 ∷ 120 ∷ []) o
-    → x ≡ puts room (pairs (streamBytes b v (i .ids .«private_id») size 0) []) h → z ≡ puts room (41 ∷ 10 ∷ []) x → z ≡ puts room (contentsLine (plain (streamBytes b v (i .ids .«private_id») (sizeOf i) 0)) []) o
+pub file-line : (room : ℕ) (b : List ℕ) (v : Volume) (i : Inode) (size : ℕ) (o h x z : Output) → size ≡ sizeOf i → h ≡ puts room (ascii "(data x" []) o
+    → x ≡ puts room (pairs (streamBytes b v (i .ids .«private_id») size 0) []) h → z ≡ puts room (ascii ")\n" []) x → z ≡ puts room (contentsLine (plain (streamBytes b v (i .ids .«private_id») (sizeOf i) 0)) []) o
 file-line room b v i size o h x z k p q e =
     bytes-line room o h x z (streamBytes b v (i .ids .«private_id») size 0) p q e ∙ ap (λ (n : ℕ). puts room (contentsLine (plain (streamBytes b v (i .ids .«private_id») n 0)) []) o) k
 
-pub packed-line : (room : ℕ) (o z : Output) → z ≡ puts room (40 ∷ 112 ∷ 97 ∷ 99 ∷ 107 ∷ 101 ∷ 100 ∷ 41 ∷ 10 ∷ []) o → z ≡ puts room (contentsLine shown.packed []) o
+pub packed-line : (room : ℕ) (o z : Output) → z ≡ puts room (ascii "(packed)\n" []) o → z ≡ puts room (contentsLine shown.packed []) o
 unfolding contentsLine
 packed-line room o z h = h
 

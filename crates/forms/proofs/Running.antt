@@ -10,7 +10,7 @@ use Rattle.text.specs.declared.Position.{Position}
 use Rattle.text.specs.declared.Position.the-variants.{At, No}
 use Rattle.text.proofs.Writing.{puts-append, puts-refused}
 use Rattle.demand.specs.Trace.{End, done, stop, Trace, says, refuses, _then_, goOn, reading}
-use Rattle.forms.specs.Run.{ending, run}
+use Rattle.forms.specs.Inner.{ending, run}
 
 module _ (room : ℕ) where
   pub run-says : (s : List ℕ) (o z : Output) → z ≡ puts room s o → z ≡ run room (says s) o

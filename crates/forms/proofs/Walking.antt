@@ -29,9 +29,7 @@ use Rattle.records.specs.declared.attribute.AttributeRead.{AttributeRead}
 use Rattle.records.specs.declared.attribute.Attribute.{Attribute}
 use Rattle.lists.specs.Lists.{searchOf, listOf}
 use Rattle.demand.specs.Trace.{Trace, says, _then_}
-use Rattle.forms.specs.Run.{run}
-use Rattle.forms.specs.Readable.{readThen, readable, read?, seenAt, entrySeen, attributeSeen}
-use Rattle.forms.specs.Forms.{attributeTrace, attributeTraces}
+use Rattle.forms.specs.Inner.{run, readThen, readable, read?, seenAt, entrySeen, attributeSeen, attributeTrace, attributeTraces}
 use Rattle.forms.specs.declared.seen.SeenEntry.{SeenEntry}
 use Rattle.forms.specs.declared.seen.SeenAttribute.{SeenAttribute}
 use Rattle.forms.proofs.Running.{run-then, stays-no}

@@ -1,3 +1,1 @@
-pub mod Run
-pub mod Readable
-pub mod Forms
+pub mod Inner

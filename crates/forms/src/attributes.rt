@@ -25,9 +25,7 @@ ghost use Rattle.lists.specs.Lists.{searchOf};
 ghost use Rattle.lines.specs.Shown.{attributeShown};
 ghost use Rattle.lines.specs.Lines.{attributeLine};
 ghost use Rattle.streams.specs.Streams.{streamBytes};
-ghost use Rattle.forms.specs.Run.{run};
-ghost use Rattle.forms.specs.Readable.{readable};
-ghost use Rattle.forms.specs.Forms.{streamTrace, attributeTrace, attributeTraces};
+ghost use Rattle.forms.specs.Inner.{run, readable, streamTrace, attributeTrace, attributeTraces};
 
 // A line with a stream's bytes, where the stream can be read.
 pub fn put_streamed(

@@ -15,8 +15,7 @@ ghost use Rattle.files.specs.File.{sizeOf};
 ghost use Rattle.lines.specs.Shown.{plain};
 ghost use Rattle.lines.specs.Lines.{contentsLine};
 ghost use Rattle.streams.specs.Streams.{streamBytes};
-ghost use Rattle.forms.specs.Run.{run};
-ghost use Rattle.forms.specs.Forms.{plainTrace, dataTrace};
+ghost use Rattle.forms.specs.Inner.{run, plainTrace, dataTrace};
 
 // The line of a file that can be read whole.
 fn put_bytes(

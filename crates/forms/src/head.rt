@@ -14,11 +14,22 @@ ghost use mathlib.Core.Path.{_≡_};
 ghost use mathlib.Core.List.{List};
 ghost use Prim.Native.Nat.{ℕ};
 ghost use Rattle.text.specs.Output.{outputOf};
-ghost use Rattle.lists.specs.Lists.{entriesOf};
-ghost use Rattle.forms.specs.Run.{run, ending, endOf};
-ghost use Rattle.forms.specs.Forms.{listsVerdict, headTrace};
+ghost use Rattle.lists.specs.Lists.{attributesOf, entriesOf};
+ghost use Rattle.forms.specs.Inner.{run, ending, endOf, headTrace};
 
 // A place that no list reaches: the whole list is read.
+fn read_attributes(p: Position, image: &[u8], v: Volume, id: u64) -> Position
+    ensures { λ r. ⌜ ((b : List ℕ) → outputOf r b ≡ ending (endOf (attributesOf (now (image .entry)) v id 0 .answer)) (outputOf p b)) ⌝ }
+{
+    let found = attribute_at(image, v, id, 18446744073709551615, 0);
+    let attribute = found.attribute;
+    match attribute {
+        AttributeAt::No(w) => refuse(p, w),
+        AttributeAt::At(_) => p,
+        AttributeAt::Nothing => p,
+    }
+}
+
 fn read_entries(p: Position, image: &[u8], v: Volume, id: u64) -> Position
     ensures { λ r. ⌜ ((b : List ℕ) → outputOf r b ≡ ending (endOf (entriesOf (now (image .entry)) v id 0 .answer)) (outputOf p b)) ⌝ }
 {
@@ -32,15 +43,10 @@ fn read_entries(p: Position, image: &[u8], v: Volume, id: u64) -> Position
 }
 
 fn read_lists(p: Position, image: &[u8], v: Volume, id: u64) -> Position
-    ensures { λ r. ⌜ ((b : List ℕ) → outputOf r b ≡ ending (endOf (listsVerdict (now (image .entry)) v id)) (outputOf p b)) ⌝ }
+    ensures { λ r. ⌜ ((b : List ℕ) → outputOf r b ≡ ending (endOf (entriesOf (now (image .entry)) v id 0 .answer)) (ending (endOf (attributesOf (now (image .entry)) v id 0 .answer)) (outputOf p b))) ⌝ }
 {
-    let found = attribute_at(image, v, id, 18446744073709551615, 0);
-    let attribute = found.attribute;
-    match attribute {
-        AttributeAt::No(w) => refuse(p, w),
-        AttributeAt::At(_) => read_entries(p, image, v, id),
-        AttributeAt::Nothing => read_entries(p, image, v, id),
-    }
+    let a = read_attributes(p, image, v, id);
+    read_entries(a, image, v, id)
 }
 
 pub fn put_head(

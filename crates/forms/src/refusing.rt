@@ -6,7 +6,7 @@ ghost use mathlib.Core.List.{List};
 ghost use Prim.Native.Nat.{ℕ};
 ghost use Rattle.text.specs.Output.{outputOf};
 ghost use Rattle.demand.specs.Trace.{stop};
-ghost use Rattle.forms.specs.Run.{ending};
+ghost use Rattle.forms.specs.Inner.{ending};
 
 // A position that is refused already stays so.
 pub fn refuse(p: Position, e: Refusal) -> Position

@@ -10,7 +10,7 @@ use records::entry_at;
 ghost use mathlib.Core.Path.{_≡_};
 ghost use Rattle.records.specs.Directory.{entryAt};
 ghost use Rattle.records.specs.Attribute.{attributeAt};
-ghost use Rattle.forms.specs.Readable.{seenAt, entrySeen, attributeSeen};
+ghost use Rattle.forms.specs.Inner.{seenAt, entrySeen, attributeSeen};
 
 pub enum SeenEntry {
     Over,

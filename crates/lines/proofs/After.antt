@@ -13,8 +13,8 @@ use Rattle.inode_record.specs.declared.inode.Inode.{Inode}
 use Rattle.inode_record.specs.declared.inode.Times.{Times}
 use Rattle.inode_record.specs.declared.inode.Owner.{Owner}
 use Rattle.lines.specs.Shown.{InodeShown, EntryShown, Form, embedded, streamed, AttributeShown, Contents, packed, plain, nameShown, streamShown, inodeShown}
-use Rattle.lines.specs.Lines.{bit, volumeLine, nodeLine, formText, attributeLine, contentsLine, entryLine, extentLine, close, formHead, attributeHead}
-use Rattle.lines.specs.Pieces.{timeWords, ownerWords, nodeHead}
+use Rattle.lines.specs.Lines.{bit, volumeLine, nodeLine, formText, attributeLine, contentsLine, entryLine, extentLine, close}
+use Rattle.lines.specs.Inner.{formHead, attributeHead, timeWords, ownerWords, nodeHead}
 
 -- a word: what follows it only follows it
 pub record Word : Type 0 where

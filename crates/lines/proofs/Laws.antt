@@ -28,8 +28,8 @@ use Rattle.inode_record.specs.declared.inode.Inode.{Inode}
 use Rattle.inode_record.specs.declared.inode.Times.{Times}
 use Rattle.inode_record.specs.declared.inode.Owner.{Owner}
 use Rattle.lines.specs.Shown.{Form, nameShown, streamShown, inodeShown, formShown, attributeShown}
-use Rattle.lines.specs.Lines.{bit, nodeLine, attributeLine, formHead, attributeHead}
-use Rattle.lines.specs.Pieces.{timeWords, ownerWords, nodeHead}
+use Rattle.lines.specs.Lines.{bit, nodeLine, attributeLine}
+use Rattle.lines.specs.Inner.{formHead, attributeHead, timeWords, ownerWords, nodeHead}
 use Rattle.lines.proofs.After.{num, int, hex, hex?, nums?, words-append, times-append, owner-append, nodehead-append, attributehead-append, attribute-pieces, node-pieces}
 
 -- a piece is written from o to p, and then what follows it

@@ -1,3 +1,3 @@
 pub mod Shown
 pub mod Lines
-pub mod Pieces
+pub mod Inner

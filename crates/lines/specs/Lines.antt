@@ -48,12 +48,3 @@ extentLine e x = ascii "(extent" (words (digits (e .logical) ∷ digits (e .len)
 -- "Then `)`"
 unfoldable pub close : List ℕ → List ℕ
 close x = ascii ")\n" x
-
--- of `e DATA)` and `s OBJECT DATA)` what comes before the digits of DATA
-unfoldable pub formHead : Form → List ℕ → List ℕ
-formHead embedded x = ascii " e x" x
-formHead (streamed o) x = ascii " s" (words (digits o ∷ []) (ascii " x" x))
-
--- of an attribute's line what comes before the digits of DATA
-unfoldable pub attributeHead : ℕ → List ℕ → Form → List ℕ → List ℕ
-attributeHead flags l f x = ascii "(attr" (words (digits flags ∷ bytes l ∷ []) (formHead f x))

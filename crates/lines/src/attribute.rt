@@ -17,7 +17,8 @@ ghost use Rattle.utf8.specs.Text.{lossy};
 ghost use Rattle.text.specs.Output.{outputOf, puts};
 ghost use Rattle.records.specs.Attribute.{attributeName, attributeBytes};
 ghost use Rattle.lines.specs.Shown.{formShown, attributeShown};
-ghost use Rattle.lines.specs.Lines.{formHead, attributeHead, attributeLine};
+ghost use Rattle.lines.specs.Lines.{attributeLine};
+ghost use Rattle.lines.specs.Inner.{formHead, attributeHead};
 
 // Where the contents stand, up to their first digit.
 fn put_form(out: &mut [u8], room: usize, p: Position, contents: AttributeData) -> Position

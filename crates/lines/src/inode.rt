@@ -20,7 +20,7 @@ ghost use mathlib.Core.List.{[], _∷_};
 ghost use Rattle.text.specs.Output.{outputOf, puts};
 ghost use Rattle.text.specs.Words.{bytes?, two?, words};
 ghost use Rattle.lines.specs.Shown.{nameShown, streamShown, inodeShown};
-ghost use Rattle.lines.specs.Pieces.{timeWords, ownerWords, nodeHead};
+ghost use Rattle.lines.specs.Inner.{timeWords, ownerWords, nodeHead};
 ghost use Rattle.lines.specs.Lines.{nodeLine};
 
 fn put_times(out: &mut [u8], room: usize, p: Position, t: Times) -> Position

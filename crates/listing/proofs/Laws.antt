@@ -9,6 +9,7 @@ use Rattle.error.specs.declared.Refusal.{Refusal}
 use Rattle.error.specs.declared.Refusal.the-variants.{TooDeep}
 use Rattle.lookup.specs.Counted.{Counted, after}
 use Rattle.text.specs.Output.{Output, refused, outputOf, puts}
+use Rattle.text.specs.Words.{ascii}
 use Rattle.text.specs.declared.Position.{Position}
 use Rattle.text.specs.declared.Position.the-variants.{No}
 use Rattle.btree.specs.Scan.{Run, scanOf}
@@ -30,13 +31,11 @@ use Rattle.lines.specs.Lines.{entryLine, close}
 use Rattle.demand.specs.Trace.{stop, Trace, says, refuses, _then_, reading}
 use Rattle.demand.specs.Listing.{entryForms, nodeForm}
 use Rattle.demand.specs.Demand.{viewOf, inodeAnswer}
-use Rattle.forms.specs.Run.{ending, run}
-use Rattle.forms.specs.Readable.{readable, seenAt, entrySeen}
-use Rattle.forms.specs.Forms.{headTrace}
+use Rattle.forms.specs.Inner.{ending, run, readable, seenAt, entrySeen, headTrace}
 use Rattle.forms.specs.declared.seen.SeenEntry.{SeenEntry}
 use Rattle.forms.proofs.Running.{run-says, run-refused, run-then, reading-no}
 use Rattle.forms.proofs.Walking.{seen-over, seen-one, seen-less}
-use Rattle.listing.specs.Listed.{entryForm}
+use Rattle.listing.specs.Inner.{entryForm}
 use Rattle.listing.proofs.Nodes.{node-run}
 
 module _ (room : ℕ) (b : List ℕ) (v : Volume) (id levels : ℕ) (o z : Output) where
@@ -59,7 +58,7 @@ module _ (room : ℕ) (b : List ℕ) (v : Volume) (id levels : ℕ) (o z : Outpu
     pub node-whole : (i : Inode) (x y : Output) (q : Search) (s : Step) (e : SeenEntry) → r .inode ≡ InodeRead.Got i → x ≡ run room (headTrace b v i) o
         → run room (entryForms (nodeForm (viewOf b v) (levels - 1)) (map (entryShown (v .reader) b) (readable (entryAt (v .reader) b) (runOf b q s)))) y
         ≡ run room (entryForms (nodeForm (viewOf b v) (levels - 1)) (map (entryShown (v .reader) b) (readable (entryAt (v .reader) b) (scanOf b (searchOf v id 9) 0)))) x
-        → entrySeen e ≡ seenAt (entryAt (v .reader) b) (s .found) → e ≡ SeenEntry.Over → z ≡ puts room (41 ∷ 10 ∷ []) y → z ≡ run room (nodeForm (viewOf b v) levels id) o
+        → entrySeen e ≡ seenAt (entryAt (v .reader) b) (s .found) → e ≡ SeenEntry.Over → z ≡ puts room (ascii ")\n" []) y → z ≡ run room (nodeForm (viewOf b v) levels id) o
     unfolding entryForms close run puts
     node-whole i x y q s e f g inv t u last =
         let n : levels ≡ suc (levels - 1) = omega arith in
@@ -102,7 +101,7 @@ module _ (room : ℕ) (form : ℕ → Trace) (b : List ℕ) (v : Volume) (e : En
   entry-stopped w k =
       sym (run-refused room _ w) ∙ ap (run room _) (k ∙ run-says room (entryLine (entryShown (v .reader) b e) []) o p h) ∙ sym (run-then room _ _ o)
 
-  pub entry-whole : (x z : Output) → x ≡ run room (form (e .id)) p → z ≡ puts room (41 ∷ 10 ∷ []) x → z ≡ run room (entryForm form (entryShown (v .reader) b e)) o
+  pub entry-whole : (x z : Output) → x ≡ run room (form (e .id)) p → z ≡ puts room (ascii ")\n" []) x → z ≡ run room (entryForm form (entryShown (v .reader) b e)) o
   unfolding entryForm entryShown close
   entry-whole x z f g =
       run-says room (close []) x z g ∙ ap (run room (says (close []))) (f ∙ ap (run room (form (e .id))) (run-says room (entryLine (entryShown (v .reader) b e) []) o p h))

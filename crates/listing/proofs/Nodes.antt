@@ -29,12 +29,10 @@ use Rattle.demand.specs.View.{View}
 use Rattle.demand.specs.Listing.{holding, attributeLines, isPacked, dataLine, entryForms, nodeForm}
 use Rattle.demand.specs.Demand.{viewOf, withContents, inodeAnswer, entriesAnswer, attributesAnswer, contentsAnswer}
 use Rattle.demand.proofs.Inodes.{inode-placed}
-use Rattle.forms.specs.Run.{ending, run}
-use Rattle.forms.specs.Readable.{readable}
-use Rattle.forms.specs.Forms.{attributeTrace, attributeTraces, plainTrace, dataTrace, headTrace}
+use Rattle.forms.specs.Inner.{ending, run, readable, attributeTrace, attributeTraces, plainTrace, dataTrace, headTrace}
 use Rattle.forms.proofs.Running.{run-says, run-refused, run-then, reading-got, reading-no}
 use Rattle.forms.proofs.Walking.{listed}
-use Rattle.listing.specs.Listed.{entryForm}
+use Rattle.listing.specs.Inner.{entryForm}
 
 -- a refusal stays
 stays : (room : ℕ) (t : Trace) (w : Refusal) (o : Output) → run room t (ending (stop w) o) ≡ ending (stop w) o

@@ -1,7 +1,7 @@
 -- The whole listing, and what it leaves of the buffer.
 use Prim.Native.Nat.{ℕ, _≤_, _<_}
 use mathlib.Core.Path.{_≡_, refl, sym, ap, _∙_}
-use mathlib.Core.List.{List, [], _∷_, _++_}
+use mathlib.Core.List.{List, [], _++_}
 use mathlib.Core.Logic.{_⊎_, inl, inr}
 use native.Mathlib.Omega.{arith}
 use borrow.Author.Needs.{needs}
@@ -14,6 +14,7 @@ use Rattle.utf8.specs.Text.{lossy}
 use Rattle.text.specs.Output.{Output, at, refused, outputOf, puts}
 use Rattle.text.specs.declared.Position.{Position}
 use Rattle.text.specs.declared.Position.the-variants.{At, No}
+use Rattle.text.specs.Words.{ascii}
 use Rattle.text.proofs.Whole.{whole, whole-written}
 use Rattle.lookup.specs.Counted.{Counted}
 use Rattle.volume.specs.Open.{openTold, volumeOfImage}
@@ -27,19 +28,23 @@ use Rattle.files.proofs.Verdicts.{le-or-gt}
 use Rattle.lines.specs.Lines.{volumeLine, close}
 use Rattle.calls.specs.Filled.{Filled, filledAt}
 use Rattle.demand.specs.Trace.{End, done, stop, Trace, says, _then_, textOr, within}
-use Rattle.demand.specs.Listing.{nodeForm, trace, listing}
+use Rattle.demand.specs.Listing.{levels, nodeForm, trace, listing}
 use Rattle.demand.specs.Demand.{viewOf, viewAt, labelShown, listingOf}
-use Rattle.forms.specs.Run.{ending, run}
+use Rattle.forms.specs.Inner.{ending, run}
 use Rattle.forms.proofs.Running.{run-says, run-then}
 use Rattle.listing.specs.Listed.{listedOf}
 
-pub listing-whole : (room : ℕ) (b : List ℕ) (v : Volume) (o p x z : Output) (k : NameRule) (l : List ℕ) → k ≡ ruleOf v → l ≡ labelOf b v
-    → p ≡ puts room (volumeLine (k .caseless) (k .normless) (lossy l) []) o → x ≡ run room (nodeForm (viewOf b v) 65 2) p → z ≡ puts room (41 ∷ 10 ∷ []) x → z ≡ run room (trace (viewOf b v)) o
+pub listing-whole : (room : ℕ) (b : List ℕ) (v : Volume) (o p x z : Output) (k : NameRule) (l : List ℕ) (n : ℕ) → k ≡ ruleOf v → l ≡ labelOf b v → n ≡ levels
+    → p ≡ puts room (volumeLine (k .caseless) (k .normless) (lossy l) []) o → x ≡ run room (nodeForm (viewOf b v) n 2) p → z ≡ puts room (ascii ")\n" []) x → z ≡ run room (trace (viewOf b v)) o
 unfolding trace labelShown close
-listing-whole room b v o p x z k l e f g h j =
+listing-whole room b v o p x z k l n e f m g h j =
     let line : p ≡ puts room (volumeLine (ruleOf v .caseless) (ruleOf v .normless) (lossy (labelOf b v)) []) o = rw (e, f) at g in
-    run-says room (close []) x z j ∙ ap (run room (says (close []))) (h ∙ ap (run room (nodeForm (viewOf b v) 65 2)) (run-says room _ o p line))
+    let root : x ≡ run room (nodeForm (viewOf b v) levels 2) p = rw m at h in
+    run-says room (close []) x z j ∙ ap (run room (says (close []))) (root ∙ ap (run room (nodeForm (viewOf b v) levels 2)) (run-says room _ o p line))
     ∙ sym (run-then room _ _ o ∙ run-then room _ _ _)
+
+pub zeroed : (w : Refusal) (b c : List ℕ) → c ≡ replicate (length b) 0 → filledAt (No w) c ≡ listedOf (no w) b
+zeroed w b c h = ap (λ (x : List ℕ). filledAt (No w) x) h
 
 module _ (t : Trace) (out : List ℕ) where
   run-whole : run (length out) t (at out 0) ≡ ending (t .ended) (whole (t .text) out)
@@ -68,30 +73,30 @@ module _ (t : Trace) (out : List ℕ) where
             let a : at l n ≡ refused BufferTooShort = w ∙ ap (ending (stop e)) (sym (above _ _ _ _ _ k refl)) in
             absurd (let z : _≡_ {A = ℕ} 0 1 = cc in omega arith)
 
-    pub listed-no : (w : Refusal) (c : List ℕ) → p ≡ No w → length l ≡ length out → c ≡ replicate (length l) 0 → filledAt (No w) c ≡ listedOf (within (length out) t) out
+    pub listed-no : (w : Refusal) (z : Filled) → p ≡ No w → length l ≡ length out → z ≡ listedOf (no w) l → z ≡ listedOf (within (length out) t) out
     unfolding within whole
-    listed-no w c q s z = of (le-or-gt (length (t .text)) (length out)) (t .ended) (ap (λ (x : Position). outputOf x l) (sym q) ∙ h ∙ run-whole)
+    listed-no w z q s g = zeros ∙ of (le-or-gt (length (t .text)) (length out)) (t .ended) (ap (λ (x : Position). outputOf x l) (sym q) ∙ h ∙ run-whole)
       where
-        zeros : c ≡ replicate (length out) 0
-        zeros = z ∙ ap (λ (n : ℕ). replicate n 0) s
+        zeros : z ≡ listedOf (no w) out
+        zeros = g ∙ ap (λ (n : ℕ). record { answer = no w; buffer = replicate n 0 }) s
 
         of : (length (t .text) ≤ length out) ⊎ (length out < length (t .text)) → (e : End) → refused w ≡ ending e (whole (t .text) out)
-            → filledAt (No w) c ≡ listedOf (within (length out) (record { text = t .text; ended = e })) out
+            → listedOf (no w) out ≡ listedOf (within (length out) (record { text = t .text; ended = e })) out
         of (inl k) done y =
             let a : refused w ≡ at (t .text ++ drop (length (t .text)) out) (length (t .text)) = y ∙ sym (at-most _ _ _ _ _ k refl) in
             absurd (let g : _≡_ {A = ℕ} 0 1 = cc in omega arith)
         of (inl k) (stop e) y =
             let a : refused w ≡ refused e = y ∙ ap (ending (stop e)) (sym (at-most _ _ _ _ _ k refl)) in
             let m : w ≡ e = cc in
-            rw (zeros, m) (ap (λ (x : Answer (List ℕ)). listedOf x out) (at-most _ _ _ _ _ k refl))
+            rw m (ap (λ (x : Answer (List ℕ)). listedOf x out) (at-most _ _ _ _ _ k refl))
         of (inr k) done y =
             let a : refused w ≡ refused BufferTooShort = y ∙ sym (above _ _ _ _ _ k refl) in
             let m : w ≡ BufferTooShort = cc in
-            rw (zeros, m) (ap (λ (x : Answer (List ℕ)). listedOf x out) (above _ _ _ _ _ k refl))
+            rw m (ap (λ (x : Answer (List ℕ)). listedOf x out) (above _ _ _ _ _ k refl))
         of (inr k) (stop e) y =
             let a : refused w ≡ refused BufferTooShort = y ∙ ap (ending (stop e)) (sym (above _ _ _ _ _ k refl)) in
             let m : w ≡ BufferTooShort = cc in
-            rw (zeros, m) (ap (λ (x : Answer (List ℕ)). listedOf x out) (above _ _ _ _ _ k refl))
+            rw m (ap (λ (x : Answer (List ℕ)). listedOf x out) (above _ _ _ _ _ k refl))
 
 module _ (image : List ℕ) (index n : ℕ) (out : List ℕ) (r : VolumeOpened) (p : openTold r ≡ volumeOfImage image index) where
   -- the listing, by what opening answered
@@ -105,7 +110,7 @@ module _ (image : List ℕ) (index n : ℕ) (out : List ℕ) (r : VolumeOpened) 
   pub list-opened : (v : Volume) (z : Filled) → r .volume ≡ VolumeOpening.Got v → z ≡ listedOf (listing (viewOf image v) n) out → z ≡ listedOf (listingOf image index n) out
   list-opened v z q h = h ∙ opened (VolumeOpening.Got v) q
 
-  pub list-refused : (w : Refusal) (c : List ℕ) → r .volume ≡ VolumeOpening.No w → c ≡ replicate (length out) 0 → filledAt (No w) c ≡ listedOf (listingOf image index n) out
-  list-refused w c q h = ap (λ (x : List ℕ). filledAt (No w) x) h ∙ opened (VolumeOpening.No w) q
+  pub list-refused : (w : Refusal) (z : Filled) → r .volume ≡ VolumeOpening.No w → z ≡ listedOf (no w) out → z ≡ listedOf (listingOf image index n) out
+  list-refused w z q h = h ∙ opened (VolumeOpening.No w) q
 
-pub ruleset all = (needs, listing-whole, listed-got, listed-no, list-opened, list-refused)
+pub ruleset all = (needs, listing-whole, zeroed, listed-got, listed-no, list-opened, list-refused)

@@ -1,5 +1,7 @@
 // The whole listing of a volume, into a buffer that the caller lends.
 use crate::writers::put_node;
+use demand::levels;
+use error::Refusal;
 use label::label_of;
 use lines::put_volume_line;
 use paths::name_rule;
@@ -11,11 +13,12 @@ use volume::VolumeOpening;
 use volume::open_at;
 ghost use mathlib.Core.Path.{_≡_};
 ghost use lib.ListN.{length};
+ghost use Rattle.error.specs.Answer.{no};
 ghost use Rattle.text.specs.Output.{outputOf, at};
 ghost use Rattle.calls.specs.Filled.{filledAt};
 ghost use Rattle.demand.specs.Listing.{trace, listing};
 ghost use Rattle.demand.specs.Demand.{viewOf, listingOf};
-ghost use Rattle.forms.specs.Run.{run};
+ghost use Rattle.forms.specs.Inner.{run};
 ghost use Rattle.listing.specs.Listed.{listedOf};
 
 fn put_listing(out: &mut [u8], image: &[u8], v: Volume) -> Position
@@ -32,25 +35,28 @@ fn put_listing(out: &mut [u8], image: &[u8], v: Volume) -> Position
         rule.normless,
         label,
     );
-    let b = put_node(out, room, a, image, v, 2, 65);
+    let b = put_node(out, room, a, image, v, 2, levels());
     put_all(out, room, b, b")\n")
 }
 
 // A refused listing leaves its buffer all zeros.
+fn refuse_zeroed(out: &mut [u8], w: Refusal) -> Position
+    ensures { λ r. ⌜ filledAt r (now (out .exit)) ≡ listedOf (no w) (now (out .entry)) ⌝ }
+{
+    clear(out);
+    Position::No(w)
+}
+
 fn list_volume(image: &[u8], v: Volume, out: &mut [u8]) -> Position
     ensures { λ r. ⌜ filledAt r (now (out .exit)) ≡ listedOf (listing (viewOf (now (image .entry)) v) (length (now (out .entry)))) (now (out .entry)) ⌝ }
 {
     let p = put_listing(out, image, v);
     match p {
         Position::At(n) => Position::At(n),
-        Position::No(w) => {
-            clear(out);
-            Position::No(w)
-        }
+        Position::No(w) => refuse_zeroed(out, w),
     }
 }
 
-// A refused listing leaves its buffer all zeros, also where nothing was opened.
 pub fn list_text(image: &[u8], index: u64, out: &mut [u8]) -> Position
     ensures { λ r. ⌜ filledAt r (now (out .exit)) ≡ listedOf (listingOf (now (image .entry)) index (length (now (out .entry)))) (now (out .entry)) ⌝ }
 {
@@ -58,9 +64,6 @@ pub fn list_text(image: &[u8], index: u64, out: &mut [u8]) -> Position
     let volume = opened.volume;
     match volume {
         VolumeOpening::Got(v) => list_volume(image, v, out),
-        VolumeOpening::No(w) => {
-            clear(out);
-            Position::No(w)
-        }
+        VolumeOpening::No(w) => refuse_zeroed(out, w),
     }
 }

@@ -19,8 +19,8 @@ ghost use Rattle.text.specs.Output.{outputOf};
 ghost use Rattle.lines.specs.Shown.{entryShown};
 ghost use Rattle.demand.specs.Listing.{nodeForm};
 ghost use Rattle.demand.specs.Demand.{viewOf};
-ghost use Rattle.forms.specs.Run.{run};
-ghost use Rattle.listing.specs.Listed.{entryForm};
+ghost use Rattle.forms.specs.Inner.{run};
+ghost use Rattle.listing.specs.Inner.{entryForm};
 
 // The node of an id, with as many levels as `levels` from it on.
 pub fn put_node(

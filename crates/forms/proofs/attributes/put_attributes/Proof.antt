@@ -6,9 +6,7 @@ use Rattle.btree.proofs.Places.{size}
 use Rattle.cursor.specs.Left.{runOf}
 use Rattle.records.specs.Attribute.{attributeAt}
 use Rattle.lists.specs.Lists.{searchOf}
-use Rattle.forms.specs.Run.{run}
-use Rattle.forms.specs.Readable.{readable}
-use Rattle.forms.specs.Forms.{attributeTraces}
+use Rattle.forms.specs.Inner.{run, readable, attributeTraces}
 use borrow.Author.Needs.{needs}
 use Rattle.forms.proofs.Walking.{walks, attributes-next}
 use Rattle.forms.proofs.attributes.put_attributes.Statement.{statement}

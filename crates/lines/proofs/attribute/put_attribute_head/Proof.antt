@@ -1,5 +1,5 @@
 use borrow.Author.Needs.{needs}
-use Rattle.lines.specs.Lines.{attributeHead}
+use Rattle.lines.specs.Inner.{attributeHead}
 use Rattle.lines.proofs.Laws.{all}
 use Rattle.lines.proofs.attribute.put_attribute_head.Statement.{statement}
 use Rattle.lines.proofs.attribute.put_attribute_head.Tie as tie

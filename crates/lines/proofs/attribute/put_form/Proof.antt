@@ -1,5 +1,5 @@
 use borrow.Author.Needs.{needs}
-use Rattle.lines.specs.Lines.{formHead}
+use Rattle.lines.specs.Inner.{formHead}
 use Rattle.lines.proofs.Laws.{all}
 use Rattle.lines.proofs.attribute.put_form.Statement.{statement}
 use Rattle.lines.proofs.attribute.put_form.Tie as tie

@@ -1,5 +1,5 @@
 use borrow.Author.Needs.{needs}
-use Rattle.lines.specs.Pieces.{nodeHead}
+use Rattle.lines.specs.Inner.{nodeHead}
 use Rattle.lines.proofs.Laws.{all}
 use Rattle.lines.proofs.inode.put_head.Statement.{statement}
 use Rattle.lines.proofs.inode.put_head.Tie as tie

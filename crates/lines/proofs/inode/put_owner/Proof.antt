@@ -1,5 +1,5 @@
 use borrow.Author.Needs.{needs}
-use Rattle.lines.specs.Pieces.{ownerWords}
+use Rattle.lines.specs.Inner.{ownerWords}
 use Rattle.lines.proofs.Laws.{all, then-number, then-signed-number}
 use Rattle.lines.proofs.inode.put_owner.Statement.{statement}
 use Rattle.lines.proofs.inode.put_owner.Tie as tie

@@ -1,5 +1,5 @@
 use borrow.Author.Needs.{needs}
-use Rattle.lines.specs.Pieces.{timeWords}
+use Rattle.lines.specs.Inner.{timeWords}
 use Rattle.lines.proofs.Laws.{then-number}
 use Rattle.lines.proofs.inode.put_times.Statement.{statement}
 use Rattle.lines.proofs.inode.put_times.Tie as tie

@@ -12,8 +12,7 @@ use Rattle.lists.specs.Lists.{searchOf}
 use Rattle.lines.specs.Shown.{entryShown}
 use Rattle.demand.specs.Listing.{entryForms, nodeForm}
 use Rattle.demand.specs.Demand.{viewOf}
-use Rattle.forms.specs.Run.{run}
-use Rattle.forms.specs.Readable.{readable}
+use Rattle.forms.specs.Inner.{run, readable}
 use Rattle.listing.proofs.Laws.{nodes, node-whole, entries-next, some-left, less-left}
 use borrow.Fn.Kinds.{In}
 use borrow.Fn.PlainCycle.{Measures, is, falls, and}

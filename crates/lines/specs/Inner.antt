@@ -1,10 +1,12 @@
--- Pieces of a node's line, each a function's share of it. Document 01, "The listing (added)": "single spaces".
+-- Shares of a line, each what one function writes. They need no belief: together they are `nodeLine` and `attributeLine` (`node-pieces` and
+-- `attribute-texts`, proofs/After.antt).
 use Prim.Native.Nat.{ℕ}
 use mathlib.Core.List.{List, [], _∷_}
-use Rattle.text.specs.Words.{ascii, digits, signed, words}
+use Rattle.text.specs.Words.{ascii, digits, signed, bytes, words}
 use Rattle.inode_record.specs.declared.inode.Inode.{Inode}
 use Rattle.inode_record.specs.declared.inode.Times.{Times}
 use Rattle.inode_record.specs.declared.inode.Owner.{Owner}
+use Rattle.lines.specs.Shown.{Form, embedded, streamed}
 
 -- `CREATE MOD CHANGE ACCESS`
 unfoldable pub timeWords : Times → List ℕ → List ℕ
@@ -19,3 +21,12 @@ ownerWords o x = words (
 unfoldable pub nodeHead : Inode → List ℕ → List ℕ
 nodeHead i x =
     ascii "(node" (words (digits (i .id) ∷ digits (i .ids .parent) ∷ digits (i .ids .«private_id») ∷ []) (timeWords (i .times) (ownerWords (i .owner) x)))
+
+-- of `e DATA)` and `s OBJECT DATA)` what comes before the digits of DATA
+unfoldable pub formHead : Form → List ℕ → List ℕ
+formHead embedded x = ascii " e x" x
+formHead (streamed o) x = ascii " s" (words (digits o ∷ []) (ascii " x" x))
+
+-- of an attribute's line what comes before the digits of DATA
+unfoldable pub attributeHead : ℕ → List ℕ → Form → List ℕ → List ℕ
+attributeHead flags l f x = ascii "(attr" (words (digits flags ∷ bytes l ∷ []) (formHead f x))

@@ -1,0 +1,17 @@
+use borrow.Author.Needs.{needs}
+use Rattle.forms.proofs.Heads.{heads}
+use Rattle.forms.proofs.head.read_attributes.Statement.{statement}
+use Rattle.forms.proofs.head.read_attributes.Tie as tie
+
+pub read-attributes-spec : {M : Type 1} → statement M
+read-attributes-spec =
+    tie.close
+    (tie.spec
+    (λ c κs. search needs)
+    (λ c. search needs)
+    (λ c κs. search needs)
+    (λ c. search needs)
+    (λ c. search needs)
+    (λ c. search heads)
+    (λ c. search heads)
+    (λ c. search heads))
