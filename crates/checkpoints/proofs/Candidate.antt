@@ -47,10 +47,10 @@ module _ (b : List ℕ) where
         x .1 .0 ∙ ap (λ (s : Superblock). got (s .xid)) (same-some (d .1 .1))
 
     pub superblock-if : sb .place ≡ place → numberAt 8 b 16 ≡ got (sb .xid) → numberAt 8 b 64 ≡ got (sb .incompat) →
-        numberAt 8 b 112 ≡ got (sb .descriptors .base) → numberAt 4 b 136 ≡ got (sb .descriptors .index) → numberAt 4 b 140 ≡ got (sb .descriptors .len) →
+        numberAt 4 b 104 ≡ got (sb .descriptors .blocks) → numberAt 8 b 112 ≡ got (sb .descriptors .base) → numberAt 4 b 136 ≡ got (sb .descriptors .index) → numberAt 4 b 140 ≡ got (sb .descriptors .len) →
         numberAt 8 b 160 ≡ got (sb .«omap_oid») → numberAt 4 b 180 ≡ got (sb .«max_volumes») → superblockAt b place ≡ some sb
     unfolding superblockAt descriptorsAt
-    superblock-if p x i d n l o v = rw (x, i, o, v, d, n, l, ← p)
+    superblock-if p x i a d n l o v = rw (x, i, o, v, a, d, n, l, ← p)
 
     pub marked-facts : markedOf b place ≡ some sb → (hasMagic b ≡ true) × (valid b ≡ true) × (superblockAt b place ≡ some sb)
     unfolding markedOf

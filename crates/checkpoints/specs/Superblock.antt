@@ -27,13 +27,14 @@ abbrev pub superTold : Superblocked → Answer Superblock
 superTold (Got s) = got s
 superTold (No e) = no e
 
--- nx_xp_desc_base, nx_xp_desc_index, nx_xp_desc_len
+-- nx_xp_desc_blocks, nx_xp_desc_base, nx_xp_desc_index, nx_xp_desc_len
 unfoldable pub descriptorsAt : List ℕ → Option Descriptors
 descriptorsAt b =
+    known (numberAt 4 b 104) >>? λ blocks.
     known (numberAt 8 b 112) >>? λ base.
     known (numberAt 4 b 136) >>? λ index.
     known (numberAt 4 b 140) >>? λ len.
-    some (record { base = base; index = index; len = len })
+    some (record { blocks = blocks; base = base; index = index; len = len })
 
 -- o_xid, nx_incompatible_features, nx_omap_oid, nx_max_file_systems
 unfoldable pub superblockAt : List ℕ → Span → Option Superblock

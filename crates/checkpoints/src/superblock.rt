@@ -7,8 +7,9 @@ use error::Refusal;
 ghost use mathlib.Core.Path.{_≡_};
 ghost use Rattle.checkpoints.specs.Superblock.{describedTold, descriptorsAt, foundTold, superblockAt};
 
-// Where a checkpoint says that its own descriptor blocks lie.
+// Where a checkpoint says that its own descriptor blocks lie. The ring that they lie on has the length that block 0 gives, whatever `blocks` is.
 pub struct Descriptors {
+    pub blocks: u32,
     pub base: u64,
     pub index: u32,
     pub len: u32,
@@ -42,6 +43,10 @@ pub enum Superblocked {
 fn descriptors_at(b: &[u8]) -> Described
     ensures { λ r. ⌜ describedTold r ≡ descriptorsAt (now (b .entry)) ⌝ }
 {
+    let blocks = match u32_at(b, 104) {
+        Number::Got(x) => x,
+        Number::No(_) => return Described::Nothing,
+    };
     let base = match u64_at(b, 112) {
         Number::Got(x) => x,
         Number::No(_) => return Described::Nothing,
@@ -52,6 +57,7 @@ fn descriptors_at(b: &[u8]) -> Described
     };
     match u32_at(b, 140) {
         Number::Got(len) => Described::Got(Descriptors {
+            blocks: blocks as u32,
             base: base,
             index: index as u32,
             len: len as u32,

@@ -55,7 +55,7 @@ module _ (image : List ℕ) (g : Geometry) (big : 4096 ≤ g .reader .«block_si
     read =
         let b = ringBlock image g i in
         let l = long in
-        superblock-if b (placeOf image g (g .base + i)) (superblockOf image g i) refl (number-read 8 b 16 (omega arith)) (number-read 8 b 64 (omega arith)) (number-read 8 b 112 (omega arith))
+        superblock-if b (placeOf image g (g .base + i)) (superblockOf image g i) refl (number-read 8 b 16 (omega arith)) (number-read 8 b 64 (omega arith)) (number-read 4 b 104 (omega arith)) (number-read 8 b 112 (omega arith))
         (number-read 4 b 136 (omega arith)) (number-read 4 b 140 (omega arith)) (number-read 8 b 160 (omega arith)) (number-read 4 b 180 (omega arith))
 
     abbrev Accepted : Superblock → Type 0

@@ -124,7 +124,7 @@ module _ (image : List ℕ) (g : Geometry) where
 
   -- ---- what is opened
 
-  -- o_xid, nx_incompatible_features, nx_omap_oid, nx_max_file_systems, nx_xp_desc_base, nx_xp_desc_index and nx_xp_desc_len of the i-th block
+  -- o_xid, nx_incompatible_features, nx_omap_oid, nx_max_file_systems, nx_xp_desc_blocks, nx_xp_desc_base, nx_xp_desc_index and nx_xp_desc_len of the i-th block
   abbrev pub superblockOf : ℕ → Superblock
   superblockOf i = record {
     place = placeOf (g .base + i);
@@ -132,7 +132,7 @@ module _ (image : List ℕ) (g : Geometry) where
     incompat = little 8 (ringBlock i) 64;
     «omap_oid» = little 8 (ringBlock i) 160;
     «max_volumes» = little 4 (ringBlock i) 180;
-    descriptors = record { base = little 8 (ringBlock i) 112; index = little 4 (ringBlock i) 136; len = little 4 (ringBlock i) 140 };
+    descriptors = record { blocks = little 4 (ringBlock i) 104; base = little 8 (ringBlock i) 112; index = little 4 (ringBlock i) 136; len = little 4 (ringBlock i) 140 };
   }
 
   -- "Version 1, then Fusion: 3. Then the object map": NX_INCOMPAT_VERSION1 0x1, NX_INCOMPAT_FUSION 0x100
