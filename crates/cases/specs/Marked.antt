@@ -4,7 +4,7 @@ use Prim.Native.Nat.{ℕ}
 use mathlib.Core.Path.{_≡_}
 use mathlib.Core.Bool.{true, false}
 use mathlib.Core.List.{List, [], _∷_, _++_}
-use lib.ListN.{replicate}
+use lib.ListN.{length, replicate}
 use Rattle.checksum.specs.Fletcher.{checksum, valid}
 use Rattle.name_hash.specs.Hash.{nameHash, nameLenAndHash}
 use Rattle.node.specs.Node.{laidOut}
@@ -12,18 +12,16 @@ use Rattle.geometry.specs.BlockZero.{sizeOk}
 use Rattle.volume.specs.declared.Volume.{Volume}
 use Rattle.lists.specs.Lists.{inodeOf}
 use Rattle.paths.specs.Lookup.{lookupPath}
-use Rattle.leaves.specs.Leaves.{valueOr, refusalIn, oneIf}
+use Rattle.leaves.specs.Leaves.{valueOr, refusalIn}
 
 -- a leaf's fields of a level
 abbrev levelled : ℕ → ℕ
 levelled level = refusalIn (laidOut (record { flags = 2; level = level; nkeys = 0; «toc_off» = 0; «toc_len» = 0 }) 1 4096)
 
--- what the definitions give, a line of the paper a line
+-- of hashes, block sizes and levels: what the definitions give, a line of the paper a line
 unfoldable pub given : List ℕ
 given =
-    checksum (replicate 32 0) ∷ checksum (replicate 8 0 ++ 1 ∷ replicate 23 0)
-    ∷ oneIf (valid (replicate 8 0xFF ++ replicate 20 0)) ∷ oneIf (valid (replicate 8 0xFF ++ replicate 26 0))
-    ∷ valueOr 0 (nameHash true []) ∷ valueOr 0 (nameHash false []) ∷ valueOr 0 (nameLenAndHash true []) ∷ valueOr 0 (nameLenAndHash false [])
+    valueOr 0 (nameHash true []) ∷ valueOr 0 (nameHash false []) ∷ valueOr 0 (nameLenAndHash true []) ∷ valueOr 0 (nameLenAndHash false [])
     ∷ refusalIn (sizeOk 4096) ∷ refusalIn (sizeOk 65536)
     ∷ refusalIn (sizeOk 2048) ∷ refusalIn (sizeOk 12288) ∷ refusalIn (sizeOk 131072)
     ∷ levelled 32 ∷ levelled 33
@@ -32,16 +30,20 @@ given =
 -- what the paper says
 unfoldable pub said : List ℕ
 said =
-    0xFFFFFFFFFFFFFFFF ∷ 0x00000006FFFFFFF8
-    ∷ 0 ∷ 0
-    ∷ 0x3FFFFF ∷ 0x3FFFFF ∷ 0xFFFFFC01 ∷ 0xFFFFFC01
+    0x3FFFFF ∷ 0x3FFFFF ∷ 0xFFFFFC01 ∷ 0xFFFFFC01
     ∷ 0 ∷ 0
     ∷ 2 ∷ 2 ∷ 2
     ∷ 0 ∷ 2
     ∷ []
 
--- the line on paths is about lookup in any volume of any image
 pub record MarkedLines : Type 0 where
+  -- "checksum of 32 bytes, zero from byte 8 on, is 0xFFFFFFFFFFFFFFFF", whatever the first 8 are; "with the word at 8 equal to 1, 0x00000006FFFFFFF8"
+  pub zero-from-8 : (first : List ℕ) → length first ≡ 8 → checksum (first ++ replicate 24 0) ≡ 0xFFFFFFFFFFFFFFFF
+  pub one-at-8 : (first : List ℕ) → length first ≡ 8 → checksum (first ++ 1 ∷ replicate 23 0) ≡ 0x00000006FFFFFFF8
+  -- "28 and 34 bytes invalid", whatever they are
+  pub invalid-28 : (b : List ℕ) → length b ≡ 28 → valid b ≡ false
+  pub invalid-34 : (b : List ℕ) → length b ≡ 34 → valid b ≡ false
   pub numbers : given ≡ said
+  -- "paths "" and "//" are the root", in any volume of any image
   pub empty-is-root : (image : List ℕ) (v : Volume) (nodes : ℕ) → lookupPath image v [] nodes ≡ inodeOf image v 2 nodes
   pub slashes-are-root : (image : List ℕ) (v : Volume) (nodes : ℕ) → lookupPath image v (47 ∷ 47 ∷ []) nodes ≡ inodeOf image v 2 nodes
