@@ -23,7 +23,7 @@ use Rattle.lists.specs.declared.entries.EntryFound.{EntryFound}
 use Rattle.lists.specs.declared.entries.EntryAt.{EntryAt}
 use Rattle.lists.specs.declared.attributes.AttributeFound.{AttributeFound}
 use Rattle.lists.specs.declared.attributes.AttributeAt.{AttributeAt}
-use Rattle.files.specs.Verdict.{Verdict, fine}
+use Rattle.extents.specs.Verdict.{Verdict, fine}
 use Rattle.lines.specs.Shown.{inodeShown}
 use Rattle.lines.specs.Lines.{nodeLine}
 use Rattle.demand.specs.Trace.{End, done, stop, Trace, says, _then_, reading}

@@ -7,10 +7,9 @@ use Rattle.records.specs.declared.attribute.Attribute.{Attribute}
 use Rattle.records.specs.declared.attribute.StreamData.{StreamData}
 use Rattle.inode_record.specs.declared.inode.Inode.{Inode}
 use Rattle.lists.specs.Lists.{attributesOf, entriesOf}
-use Rattle.files.specs.Verdict.{Verdict, fine}
-use Rattle.files.specs.File.{packed}
+use Rattle.extents.specs.Verdict.{Verdict, fine}
+use Rattle.files.specs.File.{compressed, readPlain}
 use Rattle.streams.specs.Streams.{streamOf}
-use Rattle.contents.specs.Whole.{readPlain}
 use Rattle.links.specs.Link.{contentsOf}
 use Rattle.lines.specs.Shown.{inodeShown, attributeShown, plain}
 use Rattle.lines.specs.Shown as shown
@@ -34,7 +33,7 @@ unfoldable pub plainTrace : List ℕ → Volume → Inode → Trace
 plainTrace b v i = reading (readPlain b v i 0 .answer) λ d. says (contentsLine (plain d) [])
 
 unfoldable pub dataTrace : List ℕ → Volume → Inode → Trace
-dataTrace b v i = ifEq (packed i) 1 (says (contentsLine shown.packed [])) (plainTrace b v i)
+dataTrace b v i = ifEq (compressed i) 1 (says (contentsLine shown.packed [])) (plainTrace b v i)
 
 -- "all its attributes, then all its entries, are read"
 unfoldable pub listsVerdict : List ℕ → Volume → ℕ → Verdict
