@@ -17,9 +17,10 @@ use Rattle.records.specs.declared.attribute.StreamData.{StreamData}
 use Rattle.lists.specs.Told.{attributeFound}
 use Rattle.lists.specs.declared.attributes.AttributeFound.{AttributeFound}
 use Rattle.lists.specs.declared.attributes.AttributeAt.{AttributeAt}
-use Rattle.files.specs.Ruling.{ruled}
-use Rattle.files.specs.declared.verdict.Ruling.{Ruling}
-use Rattle.streams.specs.Streams.{settledTold, settledOf, streamOf, streamBytes}
+use Rattle.extents.specs.Ruling.{ruled}
+use Rattle.extents.specs.declared.verdict.Ruling.{Ruling}
+use Rattle.streams.specs.Streams.{settledTold, settledOf, streamOf}
+use Rattle.streams.specs.Inner.{streamBytes}
 use Rattle.streams.specs.declared.settle.Settled.{Settled}
 use Rattle.streams.proofs.Contents.{stream-settled}
 use Rattle.links.specs.Link.{contentsBy}

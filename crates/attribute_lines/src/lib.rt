@@ -1,6 +1,6 @@
 // The line of an attribute with its contents, by place.
 use bytes::Span;
-use files::Ruling;
+use extents::Ruling;
 use forms::put_streamed;
 use lines::put_attribute_embedded;
 use lists::AttributeAt;
@@ -19,7 +19,7 @@ ghost use mathlib.Core.List.{[]};
 ghost use Rattle.records.specs.Attribute.{attributeBytes};
 ghost use Rattle.lines.specs.Shown.{attributeShown};
 ghost use Rattle.lines.specs.Lines.{attributeLine};
-ghost use Rattle.streams.specs.Streams.{streamBytes};
+ghost use Rattle.streams.specs.Inner.{streamBytes};
 ghost use Rattle.calls.specs.Filled.{filledAt, filled, filledBy};
 ghost use Rattle.attribute_lines.specs.Attributes.{streamedOf, attributeOf, attributeOn, attributeText};
 

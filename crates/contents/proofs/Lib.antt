@@ -1,2 +1,4 @@
+pub mod AgreeLaws
 pub mod Laws
 pub mod Plain
+pub mod Examples

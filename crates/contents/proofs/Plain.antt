@@ -14,16 +14,17 @@ use Rattle.records.specs.Extent.{extentAt}
 use Rattle.records.specs.declared.extent.Extent.{Extent}
 use Rattle.inode_record.specs.declared.inode.Inode.{Inode}
 use Rattle.lists.specs.Lists.{searchOf, listOf, extentsOf}
-use Rattle.files.specs.Verdict.{Verdict, fine, _>>_}
-use Rattle.files.specs.Read.{Disk, diskOf, start, end, chain, since, decide, bytes, span, readAt, readAll}
-use Rattle.files.specs.Judge.{judgeOf}
-use Rattle.files.specs.File.{sizeOf, packed, readWhole}
-use Rattle.files.specs.Stream.{poured}
-use Rattle.files.proofs.Verdicts.{le-or-gt, assoc}
-use Rattle.files.proofs.AgreeLaws.{all-poured}
-use Rattle.streams.specs.Streams.{streamBytes}
+use Rattle.extents.specs.Verdict.{Verdict, fine, _>>_}
+use Rattle.extents.specs.Extents.{Disk, diskOf, start, end, inOrder, since, decide}
+use Rattle.files.specs.Read.{bytes, span, readAt, readAll}
+use Rattle.extents.specs.Inner.{judgeOf}
+use Rattle.files.specs.File.{sizeOf, compressed, readPlain, readWhole}
+use Rattle.streams.specs.Inner.{poured, streamBytes}
+use Rattle.extents.proofs.Verdicts.{le-or-gt, assoc}
+use Rattle.contents.proofs.AgreeLaws.{all-poured}
 use Rattle.streams.proofs.Contents.{run-poured}
-use Rattle.contents.specs.Whole.{wholeVerdict, wholeOver, settledWhole, readPlain}
+use Rattle.contents.specs.Whole.{settledWhole}
+use Rattle.contents.specs.Inner.{wholeVerdict, wholeOver, wholeBy}
 
 module _ (d : Disk) (es : List Extent) where
   decide-none : (xs : List Extent) → decide d 0 0 xs ≡ fine
@@ -51,18 +52,18 @@ module _ (d : Disk) (es : List Extent) where
   read-all : (size : ℕ) → readAt d size es 0 size ≡ (judgeOf d 0 size es >> got (bytes d es 0 size))
   unfolding readAt judgeOf
   read-all size =
-      ap (λ (x : Answer (List ℕ)). chain start 0 es >> x) (rest-is size (min size (size - 0)) (omega arith))
-      ∙ sym (assoc (chain start 0 es) (decide d 0 size (since 0 es)) (got (bytes d es 0 size)))
+      ap (λ (x : Answer (List ℕ)). inOrder start 0 es >> x) (rest-is size (min size (size - 0)) (omega arith))
+      ∙ sym (assoc (inOrder start 0 es) (decide d 0 size (since 0 es)) (got (bytes d es 0 size)))
 
   -- refused as `wholeVerdict` says, and else the bytes that are poured
   pub all-settled : (size : ℕ) → 0 < d .block → readAll d size es ≡ (wholeVerdict d size es >> got (poured d size 0 es))
   unfolding readAll wholeVerdict
-  all-settled size pos = of (chain end 0 es >> judgeOf d 0 size es) refl
+  all-settled size pos = of (inOrder end 0 es >> judgeOf d 0 size es) refl
     where
-      whole : readAll d size es ≡ ((chain end 0 es >> judgeOf d 0 size es) >> got (bytes d es 0 size))
-      whole = ap (λ (x : Answer (List ℕ)). chain end 0 es >> x) (read-all size) ∙ sym (assoc (chain end 0 es) (judgeOf d 0 size es) (got (bytes d es 0 size)))
+      whole : readAll d size es ≡ ((inOrder end 0 es >> judgeOf d 0 size es) >> got (bytes d es 0 size))
+      whole = ap (λ (x : Answer (List ℕ)). inOrder end 0 es >> x) (read-all size) ∙ sym (assoc (inOrder end 0 es) (judgeOf d 0 size es) (got (bytes d es 0 size)))
 
-      of : (v : Verdict) → (chain end 0 es >> judgeOf d 0 size es) ≡ v → readAll d size es ≡ (v >> got (poured d size 0 es))
+      of : (v : Verdict) → (inOrder end 0 es >> judgeOf d 0 size es) ≡ v → readAll d size es ≡ (v >> got (poured d size 0 es))
       of (got tt) e =
           let r : readAll d size es ≡ got (bytes d es 0 size) = whole ∙ ap (λ (v : Verdict). v >> got (bytes d es 0 size)) e in
           r ∙ ap got (all-poured d pos size es (bytes d es 0 size) r)
@@ -77,14 +78,30 @@ settled-as d size n (got es) bs pos h = ap (after n) (all-settled d es size pos)
     of (no w) = refl
 settled-as d size n (no w) bs pos h = refl
 
+-- what settling refuses is what reading the whole refuses
+whole-from : (d : Disk) (size n : ℕ) (c : Answer (List Extent)) → 0 < d .block
+    → (onto (onto (after n c) λ es t. after t (readAll d size es)) λ bs t. after t fine) ≡ (onto (after n c) λ es t. after t (wholeVerdict d size es))
+whole-from d size n (got es) pos = rw (all-settled d es size pos) (of (wholeVerdict d size es))
+  where
+    of : (v : Verdict) → (onto (after n (v >> got (poured d size 0 es))) λ bs t. after t fine) ≡ after n v
+    of (got tt) = refl
+    of (no w) = refl
+whole-from d size n (no w) pos = refl
+
+pub whole-is : (b : List ℕ) (v : Volume) (i : Inode) (s : ℕ) → settledWhole b v i s ≡ wholeBy b v i s
+unfolding settledWhole readPlain wholeBy wholeOver extentsOf
+whole-is b v i s =
+    whole-from (diskOf (v .reader) b) (sizeOf i) (listOf (extentAt (v .reader) b) (scanOf b (searchOf v (i .ids .«private_id») 8) s) .nodes) (listOf (extentAt (v .reader) b) (scanOf b (searchOf v (i .ids .«private_id») 8) s) .answer) (omega arith)
+
 pub plain-settled : (b : List ℕ) (v : Volume) (i : Inode) (s : ℕ)
     → readPlain b v i s ≡ (onto (settledWhole b v i s) λ u t. after t (got (streamBytes b v (i .ids .«private_id») (sizeOf i) s)))
-unfolding readPlain settledWhole wholeOver streamBytes extentsOf
+unfolding readPlain wholeBy wholeOver streamBytes extentsOf
 plain-settled b v i s =
-    settled-as (diskOf (v .reader) b) (sizeOf i) (listOf (extentAt (v .reader) b) (scanOf b (searchOf v (i .ids .«private_id») 8) s) .nodes) (listOf (extentAt (v .reader) b) (scanOf b (searchOf v (i .ids .«private_id») 8) s) .answer) _ (omega arith)
-    (λ es h. run-poured (extentAt (v .reader) b) (diskOf (v .reader) b) (sizeOf i) 0 (scanOf b (searchOf v (i .ids .«private_id») 8) s) es h)
+    rw (whole-is b v i s)
+    (settled-as (diskOf (v .reader) b) (sizeOf i) (listOf (extentAt (v .reader) b) (scanOf b (searchOf v (i .ids .«private_id») 8) s) .nodes) (listOf (extentAt (v .reader) b) (scanOf b (searchOf v (i .ids .«private_id») 8) s) .answer) _ (omega arith)
+    (λ es h. run-poured (extentAt (v .reader) b) (diskOf (v .reader) b) (sizeOf i) 0 (scanOf b (searchOf v (i .ids .«private_id») 8) s) es h))
 
--- of a file that is not packed it is the whole read
-pub plain-whole : (b : List ℕ) (v : Volume) (i : Inode) (s : ℕ) → (packed i ≡ 1 → ⊥) → readWhole b v i s ≡ readPlain b v i s
-unfolding readWhole readPlain
+-- of a file that is not compressed it is the whole read
+pub plain-whole : (b : List ℕ) (v : Volume) (i : Inode) (s : ℕ) → (compressed i ≡ 1 → ⊥) → readWhole b v i s ≡ readPlain b v i s
+unfolding readWhole
 plain-whole b v i s h = sym (other _ _ _ _ _ h refl)

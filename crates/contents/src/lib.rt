@@ -4,8 +4,8 @@ use btree::Search;
 use cursor::first;
 use cursor::next;
 use error::Refusal;
-use files::Ruling;
-use files::judge;
+use extents::Ruling;
+use extents::judge;
 use files::size_of;
 use inode_record::Inode;
 use lists::search;
@@ -15,9 +15,10 @@ use records::extent_at;
 use streams::Settled;
 use volume::Volume;
 ghost use mathlib.Core.Path.{_≡_};
-ghost use Rattle.files.specs.Ruling.{ruled};
+ghost use Rattle.extents.specs.Ruling.{ruled};
 ghost use Rattle.streams.specs.Streams.{settledTold};
-ghost use Rattle.contents.specs.Whole.{apartAfter, apartOf, wholeOver, settledWhole};
+ghost use Rattle.contents.specs.Whole.{settledWhole};
+ghost use Rattle.contents.specs.Inner.{apartAfter, apartOf, wholeOver};
 
 fn with_nodes(ruling: Ruling, nodes: u64) -> Settled
     ensures { λ r. ⌜ r ≡ record { ruling = ruling; nodes = nodes } ⌝ }
@@ -91,7 +92,7 @@ fn whole_over(image: &[u8], q: Search, size: u64, nodes: u64) -> Settled
     }
 }
 
-// Whether the whole of a file that is not packed can be read.
+// Whether the whole of a file that is not compressed can be read.
 pub fn settle_whole(image: &[u8], v: Volume, inode: Inode, nodes: u64) -> Settled
     ensures { λ r. ⌜ settledTold r ≡ settledWhole (now (image .entry)) v inode nodes ⌝ }
 {

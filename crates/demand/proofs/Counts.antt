@@ -38,9 +38,10 @@ use Rattle.records.specs.declared.attribute.AttributeData.{AttributeData}
 use Rattle.records.specs.declared.attribute.AttributeData.the-variants.{Embedded, Stream}
 use Rattle.inode_record.specs.declared.inode.Inode.{Inode}
 use Rattle.lists.specs.Lists.{searchOf, listOf, entriesOf, attributesOf, extentsOf, inodeMet, inodeOf}
-use Rattle.files.specs.Read.{diskOf, readAt, readAll}
-use Rattle.files.specs.Stream.{stream}
-use Rattle.files.specs.File.{sizeOf, packed, readFile, readWhole}
+use Rattle.extents.specs.Extents.{diskOf}
+use Rattle.files.specs.Read.{readAt, readAll}
+use Rattle.streams.specs.Stream.{stream}
+use Rattle.files.specs.File.{sizeOf, compressed, readFile, readPlain, readWhole}
 use Rattle.streams.specs.Streams.{streamOf}
 use Rattle.links.specs.Link.{contentsBy, contentsOf}
 
@@ -242,12 +243,12 @@ module _ (b : List ℕ) (v : Volume) where
   pub read-even : (i : Inode) (off len s t : ℕ) → readFile b v i off len s .answer ≡ readFile b v i off len t .answer
   unfolding readFile
   read-even i off len s t =
-      eq-even said _ _ _ _ (packed i) 1 refl (told-even (λ es. readAt (diskOf (v .reader) b) (sizeOf i) es off len) _ _ (extents-even (i .ids .«private_id») s t))
+      eq-even said _ _ _ _ (compressed i) 1 refl (told-even (λ es. readAt (diskOf (v .reader) b) (sizeOf i) es off len) _ _ (extents-even (i .ids .«private_id») s t))
 
   pub whole-even : (i : Inode) (s t : ℕ) → readWhole b v i s .answer ≡ readWhole b v i t .answer
-  unfolding readWhole
+  unfolding readWhole readPlain
   whole-even i s t =
-      eq-even said _ _ _ _ (packed i) 1 refl (told-even (readAll (diskOf (v .reader) b) (sizeOf i)) _ _ (extents-even (i .ids .«private_id») s t))
+      eq-even said _ _ _ _ (compressed i) 1 refl (told-even (readAll (diskOf (v .reader) b) (sizeOf i)) _ _ (extents-even (i .ids .«private_id») s t))
 
   contents-by : (p : Place) (d : AttributeData) (s t : ℕ) → contentsBy b v p d s .answer ≡ contentsBy b v p d t .answer
   unfolding contentsBy streamOf

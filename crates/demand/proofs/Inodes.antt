@@ -31,7 +31,7 @@ use Rattle.inode_record.specs.declared.fields.StreamField.the-variants as strea
 use Rattle.inode_record.specs.declared.inode.Inode.{Inode}
 use Rattle.lists.specs.Lists.{searchOf, inodeMet, inodeOf}
 use Rattle.files.specs.File.{streamSize, sizeOf}
-use Rattle.files.proofs.Verdicts.{le-or-gt}
+use Rattle.extents.proofs.Verdicts.{le-or-gt}
 use Rattle.demand.specs.Demand.{Bytes}
 
 pub got-same : {A : Type 0} (x y : A) → got x ≡ got y → x ≡ y

@@ -14,11 +14,12 @@ use Rattle.volume.specs.declared.Volume.{Volume}
 use Rattle.records.specs.declared.extent.Extent.{Extent}
 use Rattle.inode_record.specs.declared.inode.Inode.{Inode}
 use Rattle.lists.specs.Lists.{inodeOf, extentsOf}
-use Rattle.files.specs.Read.{diskOf, end, chain, readAt, readAll}
-use Rattle.files.specs.File.{packed, sizeOf, readFile, readWhole}
-use Rattle.files.proofs.Verdicts.{went}
+use Rattle.extents.specs.Extents.{diskOf, apart}
+use Rattle.files.specs.Read.{readAt, readAll}
+use Rattle.files.specs.File.{compressed, sizeOf, readFile, readPlain, readWhole}
+use Rattle.extents.proofs.Verdicts.{went}
 use Rattle.files.proofs.ReadLaws.{read-length}
-use Rattle.files.proofs.FileParts.{packed-read, file-part}
+use Rattle.files.proofs.FileParts.{compressed-read, file-part}
 use Rattle.lines.specs.Shown.{InodeShown, inodeShown}
 use Rattle.demand.specs.View.{View}
 use Rattle.demand.specs.Listing.{isPacked}
@@ -42,7 +43,7 @@ module _ (image : List ℕ) (v : Volume) where
       let n : f .id ≡ i = sym (ap (λ (g : InodeShown). g .id) q) ∙ inode-placed image v i 0 (a .0) (a .1 .0) .parts .named in
       record { it = a .0; found = ap (λ (k : ℕ). inodeOf image v k 0 .answer) n ∙ a .1 .0; shown = q }
 
-  bit-behind : (f : InodeShown) (b : Behind f) → packed (b .it) ≡ f .bsd / 32 % 2
+  bit-behind : (f : InodeShown) (b : Behind f) → compressed (b .it) ≡ f .bsd / 32 % 2
   unfolding inodeShown
   bit-behind f b = ap (λ (g : InodeShown). g .bsd / 32 % 2) (b .shown)
 
@@ -50,7 +51,7 @@ module _ (image : List ℕ) (v : Volume) where
   unfolding readAnswer
   read-packed i f h p off len =
       let b = behind i f h in
-      rw (b .found) (ap (λ (c : Counted (List ℕ)). c .answer) (packed-read image v (b .it) 0 (bit-behind f b ∙ eqb-true (f .bsd / 32 % 2) 1 p) off len))
+      rw (b .found) (ap (λ (c : Counted (List ℕ)). c .answer) (compressed-read image v (b .it) 0 (bit-behind f b ∙ eqb-true (f .bsd / 32 % 2) 1 p) off len))
 
   read-plain : length image ≤ 2 ^ 64 → (i : ℕ) (f : InodeShown) (bs : List ℕ) → inodeAnswer image v i ≡ got f → contentsAnswer image v (f .id) ≡ got bs
       → (off len : ℕ) → readAnswer image v (f .id) off len ≡ got (take len (drop off bs))
@@ -65,14 +66,14 @@ module _ (image : List ℕ) (v : Volume) where
   volume-reads small = record { of-packed = read-packed; of-plain = λ i f bs h p c off len. read-plain small i f bs h c off len }
 
   whole-length : (i : Inode) (bs : List ℕ) → readWhole image v i 0 .answer ≡ got bs → length bs ≤ sizeOf i
-  unfolding readWhole readAll
+  unfolding readWhole readPlain readAll
   whole-length i bs =
       eq-cases (λ (x : Counted (List ℕ)). x .answer ≡ got bs → length bs ≤ sizeOf i)
       (λ h e. absurd (let z : _≡_ {A = ℕ} 0 1 = cc in omega arith))
       (λ h e. of (extentsOf image v (i .ids .«private_id») 0 .nodes) (extentsOf image v (i .ids .«private_id») 0 .answer) e)
     where
       of : (n : ℕ) (a : Answer (List Extent)) → (from n a λ es. after n (readAll (diskOf (v .reader) image) (sizeOf i) es)) .answer ≡ got bs → length bs ≤ sizeOf i
-      of n (got es) e = omega (arith, read-length (diskOf (v .reader) image) (sizeOf i) es 0 (sizeOf i) bs (went (chain end 0 es) _ _ e .1))
+      of n (got es) e = omega (arith, read-length (diskOf (v .reader) image) (sizeOf i) es 0 (sizeOf i) bs (went (apart es) _ _ e .1))
       of n (no x) e = absurd (let z : _≡_ {A = ℕ} 0 1 = cc in omega arith)
 
   pub volume-short : Bytes image → Short (2 ^ 64 - 1) (viewOf image v)

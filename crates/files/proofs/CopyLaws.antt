@@ -8,13 +8,14 @@ use native.Mathlib.Omega.{arith}
 use lib.ListN.{length, getD, take, drop, replicate, length-take, length-drop, length-replicate, getD-replicate, List·getD-append}
 use lib.Seq.{getD-take, getD-drop, getD-append-add, paste, length-paste, length-paste-head}
 use Rattle.error.proofs.Laws.{at-most, above, same, other}
-use Rattle.files.specs.Verdict.{fine}
+use Rattle.extents.specs.Verdict.{fine}
 use Rattle.files.proofs.Spans.{span-length, span-at, span-same, span-self}
-use Rattle.files.proofs.Verdicts.{le-or-gt, passed}
+use Rattle.extents.proofs.Verdicts.{le-or-gt, passed}
 use Rattle.records.specs.declared.extent.Extent.{Extent}
-use Rattle.files.specs.Read.{Disk, start, end, chain, over, byteAt, span}
-use Rattle.files.proofs.ReadLaws.{Touched, Sound, reach-within}
-use Rattle.files.specs.Copy.{lay}
+use Rattle.extents.specs.Extents.{Disk, start, end, inOrder}
+use Rattle.files.specs.Read.{over, byteAt, span}
+use Rattle.extents.proofs.ExtentLaws.{Touched, Sound, reach-within}
+use Rattle.files.specs.Inner.{lay}
 
 module _ (b s : List ℕ) (at n k : ℕ) (hb : at + n ≤ length b) (hs : n ≤ length s) where
   paste-before : k < at → getD (paste b at s n) k 0 ≡ getD b k 0
@@ -81,8 +82,8 @@ module _ (d : Disk) (off : ℕ) where
       go k n (inl t) = inr (omega arith)
 
   -- no extent of an ascending list that starts past the buffer changes it
-  pub lay-stop : (at : ℕ) (es : List Extent) (b : List ℕ) → off + length b ≤ at → chain start at es ≡ fine → lay d off es b ≡ b
-  unfolding chain
+  pub lay-stop : (at : ℕ) (es : List Extent) (b : List ℕ) → off + length b ≤ at → inOrder start at es ≡ fine → lay d off es b ≡ b
+  unfolding inOrder
   lay-stop at [] b h c = lay-none b
   lay-stop at (e ∷ es) b h c =
       let q = passed _ _ _ _ _ c in
@@ -124,6 +125,6 @@ module _ (d : Disk) (off : ℕ) where
   lay-length es b = span-length _ _ _
 
   -- an extent that starts past the buffer ends the work
-  pub lay-halt : (at : ℕ) (e : Extent) (es : List Extent) (b : List ℕ) → chain start at (e ∷ es) ≡ fine → off + length b ≤ e .logical → lay d off (e ∷ es) b ≡ b
-  unfolding chain
+  pub lay-halt : (at : ℕ) (e : Extent) (es : List Extent) (b : List ℕ) → inOrder start at (e ∷ es) ≡ fine → off + length b ≤ e .logical → lay d off (e ∷ es) b ≡ b
+  unfolding inOrder
   lay-halt at e es b c h = lay-skip e es b (inl (omega arith)) ∙ lay-stop (e .logical) es b h (passed _ _ _ _ _ c .1)

@@ -13,25 +13,25 @@ use Rattle.cursor.specs.Left.{left, runOf}
 use Rattle.cursor.specs.declared.Step.{Step}
 use Rattle.records.specs.Extent.{extentAt}
 use Rattle.records.specs.declared.extent.Extent.{Extent}
-use Rattle.files.specs.Verdict.{fine}
-use Rattle.files.specs.Read.{Disk, diskOf, start, chain, allows, decide}
-use Rattle.files.specs.Copy.{lay, Ready}
-use Rattle.files.specs.Extents.{seenAt, extentsIn}
-use Rattle.files.specs.declared.extents.Seen.{Seen}
-use Rattle.files.specs.declared.extents.Seen.the-variants as seen
-use Rattle.files.proofs.Verdicts.{passed, went}
-use Rattle.files.proofs.ReadLaws.{decide-goes}
+use Rattle.extents.specs.Verdict.{fine}
+use Rattle.extents.specs.Extents.{Disk, diskOf, start, inOrder, allows, decide}
+use Rattle.files.specs.Inner.{lay, Ready}
+use Rattle.extents.specs.Inner.{looked, extentsIn}
+use Rattle.extents.specs.declared.walk.Seen.{Seen}
+use Rattle.extents.specs.declared.walk.Seen.the-variants as seen
+use Rattle.extents.proofs.Verdicts.{passed, went}
+use Rattle.extents.proofs.ExtentLaws.{decide-goes}
 use Rattle.files.proofs.CopyLaws.{lay-none, lay-halt, lay-cons, lay-length}
-use Rattle.files.proofs.SeenLaws.{seen-less, held-over, held-no, held-at, held-more}
+use Rattle.extents.proofs.SeenLaws.{seen-less, held-over, held-no, held-at, held-more}
 
-pub lower : (at : ℕ) (es : List Extent) → chain start at es ≡ fine → chain start 0 es ≡ fine
-unfolding chain
+pub lower : (at : ℕ) (es : List Extent) → inOrder start at es ≡ fine → inOrder start 0 es ≡ fine
+unfolding inOrder
 lower at [] c = refl
 lower at (e ∷ es) c = let q = passed _ _ _ _ _ c in sym (at-most _ _ _ _ _ (omega arith) (sym (q .1)))
 
 -- what follows an extent of an ascending list ascends
-pub tail-rises : (at : ℕ) (e : Extent) (es : List Extent) → chain start at (e ∷ es) ≡ fine → chain start 0 es ≡ fine
-unfolding chain
+pub tail-rises : (at : ℕ) (e : Extent) (es : List Extent) → inOrder start at (e ∷ es) ≡ fine → inOrder start 0 es ≡ fine
+unfolding inOrder
 tail-rises at e es c = lower (e .logical) es (passed _ _ _ _ _ c .1)
 
 -- out, of m bytes, becomes whole once es are laid over it
@@ -67,7 +67,7 @@ module _ (b : List ℕ) (q : Search) (off m : ℕ) (s : Step) (out whole : List 
   Filling = Laying (diskOf (q .reader) b) off m (extentsIn (extentAt (q .reader) b) (runOf b q s)) out whole
 
   module _ (l : Filling) where
-    module _ (x : Seen) (k : x ≡ seenAt (extentAt (q .reader) b) (s .found)) where
+    module _ (x : Seen) (k : x ≡ looked (extentAt (q .reader) b) (s .found)) where
       pub fill-over : x ≡ seen.Over → out ≡ whole
       fill-over y = done (diskOf (q .reader) b) off m out whole (rw (held-over (extentAt (q .reader) b) b q s x k y) at l)
 

@@ -11,9 +11,8 @@ use Rattle.error.specs.declared.Refusal.the-variants.{Unsupported}
 use Rattle.error.proofs.Laws.{at-most, above, same, other}
 use Rattle.bytes.specs.declared.Number.the-variants as number
 use Rattle.lookup.specs.Counted.{Counted, after, from, onto}
-use Rattle.btree.specs.Scan.{Run, more, end, refused, scanOf}
+use Rattle.btree.specs.Scan.{scanOf}
 use Rattle.btree.specs.declared.entries.Search.{Search}
-use Rattle.btree.specs.declared.entries.Place.{Place}
 use Rattle.cursor.specs.Left.{runOf}
 use Rattle.volume.specs.declared.Volume.{Volume}
 use Rattle.records.specs.Extent.{extentAt}
@@ -22,18 +21,20 @@ use Rattle.inode_record.specs.declared.inode.Inode.{Inode}
 use Rattle.lists.specs.Lists.{listOf, extentsOf, searchOf}
 use Rattle.calls.specs.Filled.{Filled, answered}
 use Rattle.calls.proofs.Filling.{filled-fits, filled-nothing}
-use Rattle.files.specs.Verdict.{Verdict, fine, _>>_}
-use Rattle.files.specs.Ruling.{ruled}
-use Rattle.files.specs.Read.{Disk, diskOf, start, chain, seek, since, decide, span, bytes, readAt}
-use Rattle.files.specs.Copy.{lay, Ready}
-use Rattle.files.specs.Extents.{before, extentsIn}
-use Rattle.files.specs.Judge.{judgeOf, Decided}
-use Rattle.files.specs.File.{sizeOf, packed, readOver, readFile, stopOf, readTold}
-use Rattle.files.specs.declared.verdict.Ruling.the-variants.{Fine, No}
-use Rattle.files.specs.declared.deciding.Judged.{Judged}
+use Rattle.extents.specs.Verdict.{Verdict, fine, _>>_}
+use Rattle.extents.specs.Ruling.{ruled}
+use Rattle.extents.specs.Extents.{Disk, diskOf, start, inOrder, seek, since, decide}
+use Rattle.files.specs.Read.{span, bytes, readAt}
+use Rattle.files.specs.Inner.{lay, Ready, readOver, stopOf}
+use Rattle.extents.specs.Inner.{extentsIn, judgeOf, judgedTold, judgedOf}
+use Rattle.files.specs.File.{sizeOf, compressed, readFile, readTold}
+use Rattle.extents.specs.declared.verdict.Ruling.the-variants.{Fine, No}
+use Rattle.extents.specs.declared.deciding.Judged.{Judged}
 use Rattle.files.specs.declared.read.FileRead.{FileRead}
-use Rattle.files.proofs.Verdicts.{le-or-gt, passed, went, assoc}
-use Rattle.files.proofs.ReadLaws.{seek-takes, seek-stays}
+use Rattle.extents.proofs.Verdicts.{le-or-gt, passed, went, assoc}
+use Rattle.extents.proofs.ExtentLaws.{seek-takes, seek-stays}
+use Rattle.extents.proofs.SeenLaws.{held-list}
+use Rattle.extents.proofs.JudgeTurns.{Decided, told-decided}
 use Rattle.files.proofs.CopyLaws.{lay-start, lay-length}
 use Rattle.files.proofs.CopyTurns.{lower}
 
@@ -59,14 +60,14 @@ module _ (d : Disk) (size off len n m : ℕ) (qn : n ≡ min len (size - off)) (
   unfolding readAt judgeOf
   read-judged es = go (le-or-gt size off)
     where
-      go : (size ≤ off) ⊎ (off < size) → readAt d size es off len ≡ ((chain start 0 es >> decide d off m (since off es)) >> got (bytes d es off n))
+      go : (size ≤ off) ⊎ (off < size) → readAt d size es off len ≡ ((inOrder start 0 es >> decide d off m (since off es)) >> got (bytes d es off n))
       go (inl h) =
           let z : n ≡ 0 = omega arith in
-          rw (assoc (chain start 0 es) (decide d off m (since off es)) (got (bytes d es off n)), stop-past h, decide-none d off (since off es), z, bytes-none d es off)
-          (ap (λ (x : Answer (List ℕ)). chain start 0 es >> x) (sym (at-most _ _ _ _ _ h refl)))
+          rw (assoc (inOrder start 0 es) (decide d off m (since off es)) (got (bytes d es off n)), stop-past h, decide-none d off (since off es), z, bytes-none d es off)
+          (ap (λ (x : Answer (List ℕ)). inOrder start 0 es >> x) (sym (at-most _ _ _ _ _ h refl)))
       go (inr h) =
-          rw (assoc (chain start 0 es) (decide d off m (since off es)) (got (bytes d es off n)), stop-sum h, qn)
-          (ap (λ (x : Answer (List ℕ)). chain start 0 es >> x) (sym (above _ _ _ _ _ h refl)))
+          rw (assoc (inOrder start 0 es) (decide d off m (since off es)) (got (bytes d es off n)), stop-sum h, qn)
+          (ap (λ (x : Answer (List ℕ)). inOrder start 0 es >> x) (sym (above _ _ _ _ _ h refl)))
 
 -- ---- a verdict over a counted list
 
@@ -97,29 +98,16 @@ module _ (c : Counted (List Extent)) (judge : List Extent → Verdict) (s : ℕ)
           let y : v ≡ no w = ap (λ (x : Counted (Unit {0})). x .answer) p in
           absurd (let z : _≡_ {A = ℕ} 0 1 = cc in omega arith)
 
--- the extents of a run that is read without fault are its list
-held-list : (g : Place → Answer Extent) (r : Run) (es : List Extent) → listOf g r .answer ≡ got es → extentsIn g r ≡ es
-unfolding listOf extentsIn
-held-list g (more p s r) es h = of (g p) (listOf g r .nodes) (listOf g r .answer) (held-list g r) h
-  where
-    of : (x : Answer Extent) (t : ℕ) (a : Answer (List Extent)) → ((fs : List Extent) → a ≡ got fs → extentsIn g r ≡ fs)
-        → (from s x λ e. onto (after t a) λ fs u. after u (got (e ∷ fs))) .answer ≡ got es → before x (extentsIn g r) ≡ es
-    of (got e) t (got fs) ih k = rw (ih fs refl) (cc)
-    of (got e) t (no w) ih k = absurd (let z : _≡_ {A = ℕ} 0 1 = cc in omega arith)
-    of (no w) t a ih k = absurd (let z : _≡_ {A = ℕ} 0 1 = cc in omega arith)
-held-list g (end s) es h = cc
-held-list g (refused w s) es h = absurd (let z : _≡_ {A = ℕ} 0 1 = cc in omega arith)
-
 -- what is sought in an ascending list ascends
-seek-rises : (off at : ℕ) (best es : List Extent) → chain start 0 best ≡ fine → chain start at es ≡ fine → chain start 0 (seek off best es) ≡ fine
-unfolding chain seek
+seek-rises : (off at : ℕ) (best es : List Extent) → inOrder start 0 best ≡ fine → inOrder start at es ≡ fine → inOrder start 0 (seek off best es) ≡ fine
+unfolding inOrder seek
 seek-rises off at best [] b c = b
 seek-rises off at best (e ∷ es) b c = go (le-or-gt (e .logical) off) (seek-rises off (e .logical) (e ∷ es) es)
   where
-    q : (at ≤ e .logical) × (chain start (e .logical) es ≡ fine)
+    q : (at ≤ e .logical) × (inOrder start (e .logical) es ≡ fine)
     q = passed _ _ _ _ _ c
 
-    go : (e .logical ≤ off) ⊎ (off < e .logical) → (chain start 0 (e ∷ es) ≡ fine → chain start (e .logical) es ≡ fine → chain start 0 (seek off (e ∷ es) es) ≡ fine) → chain start 0 (seek off best (e ∷ es)) ≡ fine
+    go : (e .logical ≤ off) ⊎ (off < e .logical) → (inOrder start 0 (e ∷ es) ≡ fine → inOrder start (e .logical) es ≡ fine → inOrder start 0 (seek off (e ∷ es) es) ≡ fine) → inOrder start 0 (seek off best (e ∷ es)) ≡ fine
     go (inl h) ih = rw (seek-takes off best e es h) (ih (lower at (e ∷ es) c) (q .1))
     go (inr h) ih = rw (seek-stays off best e es h) b
 
@@ -152,7 +140,7 @@ module _ (b : List ℕ) (q : Search) (size off len s n m : ℕ) (qn : n ≡ min 
     kept : extentsIn (extentAt (q .reader) b) (runOf b q (r .kept)) ≡ since off (all .0)
     kept = w .near h ∙ rw (held-list (extentAt (q .reader) b) (scanOf b q s) (all .0) (ap (λ (c : Counted (List Extent)). c .answer) (all .1 .0)))
 
-    judged : (chain start 0 (all .0) ≡ fine) × (decide (diskOf (q .reader) b) off m (since off (all .0)) ≡ fine)
+    judged : (inOrder start 0 (all .0) ≡ fine) × (decide (diskOf (q .reader) b) off m (since off (all .0)) ≡ fine)
     unfolding judgeOf
     judged = went _ _ _ (all .1 .1)
 
@@ -180,9 +168,12 @@ pub part-length : (n k : ℕ) (out : List ℕ) → n ≡ min (length out) k → 
 part-length n k out h = simp length-take (omega arith)
 
 -- the same of the call: out is the buffer that it was lent
-module _ (b : List ℕ) (q : Search) (size off s n m : ℕ) (out : List ℕ) (qn : n ≡ min (length out) (size - off)) (qm : m ≡ stopOf size off n) (r : Judged) (w : Decided b q off m s r) where
-  pub call-refused : (e : Refusal) → r .ruling ≡ No e → readTold (record { count = number.No e; nodes = r .nodes }) out ≡ answered (readOver b q size off (length out) s) out
-  call-refused e h = told-no _ (r .nodes) out e (file-refused b q size off (length out) s n m qn qm r w e h)
+module _ (b : List ℕ) (q : Search) (size off s n m : ℕ) (out : List ℕ) (qn : n ≡ min (length out) (size - off)) (qm : m ≡ stopOf size off n) (r : Judged) (e : judgedTold b q r ≡ judgedOf b q off m s) where
+  w : Decided b q off m s r
+  w = told-decided b q off m s r e
+
+  pub call-refused : (x : Refusal) → r .ruling ≡ No x → readTold (record { count = number.No x; nodes = r .nodes }) out ≡ answered (readOver b q size off (length out) s) out
+  call-refused x h = told-no _ (r .nodes) out x (file-refused b q size off (length out) s n m qn qm r w x h)
 
   pub call-none : r .ruling ≡ Fine → n ≡ 0 → readTold (record { count = number.Got 0; nodes = r .nodes }) out ≡ answered (readOver b q size off (length out) s) out
   call-none h z = told-none _ (r .nodes) out (file-none b q size off (length out) s n m qn qm r w h z)
@@ -193,16 +184,16 @@ module _ (b : List ℕ) (q : Search) (size off s n m : ℕ) (out : List ℕ) (qn
 
   pub call-filled : r .ruling ≡ Fine → (bs : List ℕ) → bs ≡ lay (diskOf (q .reader) b) off (extentsIn (extentAt (q .reader) b) (runOf b q (r .kept))) (replicate (length (take n out)) 0)
       → readTold (record { count = number.Got n; nodes = r .nodes }) (bs ++ drop n out) ≡ answered (readOver b q size off (length out) s) out
-  call-filled h bs e =
-      let f : bs ≡ lay (diskOf (q .reader) b) off (extentsIn (extentAt (q .reader) b) (runOf b q (r .kept))) (replicate n 0) = rw (← part-length n (size - off) out qn) at e in
+  call-filled h bs l =
+      let f : bs ≡ lay (diskOf (q .reader) b) off (extentsIn (extentAt (q .reader) b) (runOf b q (r .kept))) (replicate n 0) = rw (← part-length n (size - off) out qn) at l in
       told-bytes _ (r .nodes) out n bs (rw f (lay-length (diskOf (q .reader) b) off _ (replicate n 0) ∙ length-replicate n 0)) (omega arith) (file-bytes b q size off (length out) s n m qn qm r w h bs f)
 
 module _ (b : List ℕ) (v : Volume) (i : Inode) (off len s : ℕ) (out : List ℕ) where
-  pub file-packed : packed i ≡ 1 → readTold (record { count = number.No Unsupported; nodes = s }) out ≡ answered (readFile b v i off len s) out
+  pub file-compressed : compressed i ≡ 1 → readTold (record { count = number.No Unsupported; nodes = s }) out ≡ answered (readFile b v i off len s) out
   unfolding readFile
-  file-packed h = told-no _ s out Unsupported (same _ _ _ _ _ h refl)
+  file-compressed h = told-no _ s out Unsupported (same _ _ _ _ _ h refl)
 
-  pub file-read : (x : FileRead) (last : List ℕ) (q : Search) (size : ℕ) → (packed i ≡ 1 → ⊥) → q ≡ searchOf v (i .ids .«private_id») 8 → size ≡ sizeOf i
+  pub file-read : (x : FileRead) (last : List ℕ) (q : Search) (size : ℕ) → (compressed i ≡ 1 → ⊥) → q ≡ searchOf v (i .ids .«private_id») 8 → size ≡ sizeOf i
       → readTold x last ≡ answered (readOver b q size off len s) out → readTold x last ≡ answered (readFile b v i off len s) out
   unfolding readFile readOver extentsOf
   file-read x last q size h e k w = (rw (e, k) at w) ∙ ap (λ (c : Counted (List ℕ)). answered c out) (other _ _ _ _ _ h refl)

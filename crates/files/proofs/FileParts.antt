@@ -1,4 +1,4 @@
--- A file that is read whole gives every read of it: each is that part of the whole. One that is packed is refused throughout.
+-- A file that is read whole gives every read of it: each is that part of the whole. One that is compressed is refused throughout.
 use Prim.Native.Nat.{ℕ, _^_, _≤_}
 use mathlib.Core.Path.{_≡_, refl, sym, ap, _∙_}
 use mathlib.Core.List.{List}
@@ -12,18 +12,19 @@ use Rattle.volume.specs.declared.Volume.{Volume}
 use Rattle.records.specs.declared.extent.Extent.{Extent}
 use Rattle.inode_record.specs.declared.inode.Inode.{Inode}
 use Rattle.lists.specs.Lists.{extentsOf}
-use Rattle.files.specs.Read.{diskOf, readAt, readAll}
-use Rattle.files.specs.File.{packed, sizeOf, readFile, readWhole}
+use Rattle.extents.specs.Extents.{diskOf}
+use Rattle.files.specs.Read.{readAt, readAll}
+use Rattle.files.specs.File.{compressed, sizeOf, readFile, readPlain, readWhole}
 use Rattle.files.proofs.ReadLaws.{read-part}
 
 module _ (b : List ℕ) (v : Volume) (i : Inode) (s : ℕ) where
-  pub packed-read : packed i ≡ 1 → (off len : ℕ) → readFile b v i off len s ≡ after s (no Unsupported)
+  pub compressed-read : compressed i ≡ 1 → (off len : ℕ) → readFile b v i off len s ≡ after s (no Unsupported)
   unfolding readFile
-  packed-read h off len = sym (same _ _ _ _ _ h refl)
+  compressed-read h off len = sym (same _ _ _ _ _ h refl)
 
   -- document 01, the second demand on reads, and the law that the listing's theorem rests on
   pub file-part : (t : ℕ) (bs : List ℕ) → length b ≤ 2 ^ 64 → readWhole b v i s ≡ after t (got bs) → (off len : ℕ) → readFile b v i off len s ≡ after t (got (take len (drop off bs)))
-  unfolding readWhole readFile
+  unfolding readWhole readPlain readFile
   file-part t bs small w off len =
       eq-cases (λ (x : Counted (List ℕ)). x ≡ after t (got bs) → readFile b v i off len s ≡ after t (got (take len (drop off bs))))
       (λ h e. absurd (let a : no Unsupported ≡ got bs = ap (λ (x : Counted (List ℕ)). x .answer) e in let z : _≡_ {A = ℕ} 0 1 = cc in omega arith))

@@ -1,15 +1,7 @@
-pub mod Verdicts
 pub mod Spans
 pub mod ReadLaws
-pub mod StreamLaws
 pub mod CopyLaws
-pub mod AgreeLaws
-pub mod VerdictLaws
 pub mod PasteLaws
-pub mod JudgeLaws
-pub mod SeenLaws
-pub mod JudgeTurns
 pub mod CopyTurns
 pub mod FileLaws
 pub mod FileParts
-pub mod Examples

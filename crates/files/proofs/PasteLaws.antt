@@ -10,10 +10,10 @@ use mir.Val.{Fits}
 use lib.ListN.{length, getD, set, drop, length-drop}
 use lib.Seq.{paste-zero, paste-suc, length-paste, getD-drop}
 use Rattle.records.specs.declared.extent.Extent.{Extent}
-use Rattle.files.specs.Verdict.{fine}
-use Rattle.files.specs.Read.{Disk, end, allows}
-use Rattle.files.proofs.ReadLaws.{Touched, allowed-end, allowed-sound, reach-within}
-use Rattle.files.specs.Copy.{lay, pasted}
+use Rattle.extents.specs.Verdict.{fine}
+use Rattle.extents.specs.Extents.{Disk, end, allows}
+use Rattle.extents.proofs.ExtentLaws.{Touched, allowed-end, allowed-sound, reach-within}
+use Rattle.files.specs.Inner.{lay, pasted}
 use Rattle.files.proofs.CopyLaws.{lay-none, lay-skip, lay-copy}
 
 pub pasted-none : (b : List ℕ) (at : ℕ) (s : List ℕ) (f : ℕ) → b ≡ pasted b at s f 0

@@ -1,113 +1,21 @@
 -- THE LAW of file reads: where the whole file is read, every read is a part of it.
-use Prim.Native.Nat.{ℕ, _+_, _*_, _-_, _/_, _^_, _≤_, _<_, min, max}
+use Prim.Native.Nat.{ℕ, _+_, _*_, _-_, _^_, _≤_, _<_, min}
 use mathlib.Core.Path.{_≡_, refl, sym, ap, _∙_}
 use mathlib.Core.List.{List, [], _∷_, _++_}
 use mathlib.Core.Logic.{_⊎_, inl, inr}
-use native.Mathlib.Nat.{le-div-iff-mul-le, div-lt-iff-lt-mul, div-mul-le-self, lt-div-mul-add, mul-le-mul-right, zero-add}
+use native.Mathlib.Nat.{mul-le-mul-right, zero-add}
 use native.Mathlib.Omega.{arith}
 use lib.ListN.{length, take, drop, drop-of-length-le}
 use lib.Seq.{take-nil, drop-drop, take-add}
-use Rattle.error.specs.Answer.{got, no}
-use Rattle.error.specs.declared.Refusal.the-variants.{Io, Corrupt, Overflow}
-use Rattle.error.proofs.Laws.{at-most, above, same, other}
-use Rattle.files.specs.Verdict.{fine, _>>_}
-use Rattle.files.proofs.Spans.{span-length, span-part}
-use Rattle.files.proofs.Verdicts.{was-most, was-above, was-other, le-or-gt, passed, went}
+use Rattle.error.specs.Answer.{got}
+use Rattle.error.proofs.Laws.{at-most, above}
+use Rattle.extents.specs.Verdict.{fine}
+use Rattle.extents.specs.Extents.{Disk, start, end, inOrder, seek, since, counted, reach, allows, decide}
+use Rattle.extents.proofs.Verdicts.{was-most, was-above, le-or-gt, passed, went}
+use Rattle.extents.proofs.ExtentLaws.{blocks-mono, block-below, decide-stop, decide-goes, seek-takes, seek-stays, Touched, Sound, lies-is, lies-within, allowed-end, allowed-sound, sound-allowed}
 use Rattle.records.specs.declared.extent.Extent.{Extent}
-use Rattle.files.specs.Read.{Disk, start, end, top, blocks, chain, seek, since, counted, lies, reach, allows, decide, over, byteAt, bytes, readAt, readAll, countedIn}
-
--- ---- blocks
-
-module _ (bs : ℕ) (pos : 0 < bs) where
-  pub blocks-hold : (n : ℕ) → n ≤ blocks bs n * bs
-  unfolding blocks
-  blocks-hold n = omega (arith, lt-div-mul-add {a = n + (bs - 1)} pos)
-
-  pub blocks-mono : (m n : ℕ) → m ≤ n → blocks bs m ≤ blocks bs n
-  unfolding blocks
-  blocks-mono m n h = le-div-iff-mul-le pos .1 (omega (arith, div-mul-le-self (m + (bs - 1)) bs))
-
-  pub block-below : (a n : ℕ) → a < n → a / bs < blocks bs n
-  block-below a n h = div-lt-iff-lt-mul pos .1 (omega (arith, blocks-hold n))
-
--- ---- one step of each recursion
-
-module _ (d : Disk) (off stop : ℕ) (e : Extent) (es : List Extent) where
-  pub decide-stop : stop ≤ e .logical → decide d off stop (e ∷ es) ≡ fine
-  unfolding decide
-  decide-stop h = sym (at-most _ _ _ _ _ h refl)
-
-  pub decide-goes : e .logical < stop → decide d off stop (e ∷ es) ≡ (allows d off stop e >> decide d off stop es)
-  unfolding decide
-  decide-goes h = sym (above _ _ _ _ _ h refl)
-
-module _ (off : ℕ) (best : List Extent) (e : Extent) (es : List Extent) where
-  pub seek-takes : e .logical ≤ off → seek off best (e ∷ es) ≡ seek off (e ∷ es) es
-  unfolding seek
-  seek-takes h = sym (at-most _ _ _ _ _ h refl)
-
-  pub seek-stays : off < e .logical → seek off best (e ∷ es) ≡ best
-  unfolding seek
-  seek-stays h = sym (above _ _ _ _ _ h refl)
-
--- ---- what is refused
-
--- the bytes of e that are wanted, where there are any, and it is not sparse
-pub record Touched (off stop : ℕ) (e : Extent) : Type 0 where
-  pub some : max off (e .logical) < min stop (end e)
-  pub real : 0 < e .phys
-
-module _ (d : Disk) (e : Extent) where
-  pub counted-is : e .phys + blocks (d .block) (e .len) ≤ top → e .phys + blocks (d .block) (e .len) ≤ d .count → counted d e ≡ fine
-  unfolding countedIn
-  counted-is h k = sym (at-most _ _ _ _ _ h (at-most _ _ _ _ _ k refl))
-
-  pub counted-wide : top < e .phys + blocks (d .block) (e .len) → counted d e ≡ no Overflow
-  unfolding countedIn
-  counted-wide h = sym (above _ _ _ _ _ h refl)
-
-  pub counted-past : e .phys + blocks (d .block) (e .len) ≤ top → d .count < e .phys + blocks (d .block) (e .len) → counted d e ≡ no Corrupt
-  unfolding countedIn
-  counted-past h k = sym (at-most _ _ _ _ _ h (above _ _ _ _ _ k refl))
-
-module _ (d : Disk) (p q : ℕ) where
-  pub lies-is : p * d .block ≤ top → q * d .block ≤ length (d .image) → lies d p q ≡ fine
-  unfolding lies
-  lies-is h k = sym (at-most _ _ _ _ _ h (at-most _ _ _ _ _ k refl))
-
-  pub lies-wide : top < p * d .block → lies d p q ≡ no Overflow
-  unfolding lies
-  lies-wide h = sym (above _ _ _ _ _ h refl)
-
-  pub lies-past : p * d .block ≤ top → length (d .image) < q * d .block → lies d p q ≡ no Io
-  unfolding lies
-  lies-past h k = sym (at-most _ _ _ _ _ h (above _ _ _ _ _ k refl))
-
-  pub lies-within : lies d p q ≡ fine → q * d .block ≤ length (d .image)
-  unfolding lies
-  lies-within w = passed _ _ _ _ _ (passed _ _ _ _ _ w .1) .0
-
-module _ (d : Disk) (off stop : ℕ) (e : Extent) where
-  -- what is asked of a touched extent
-  abbrev pub Sound : Type 0
-  Sound = reach d e (max off (e .logical) - e .logical) (min stop (end e) - e .logical) ≡ fine
-
-  pub allowed-end : allows d off stop e ≡ fine → end e ≤ top
-  unfolding allows
-  allowed-end w = passed _ _ _ _ _ w .0
-
-  pub allowed-sound : allows d off stop e ≡ fine → Touched off stop e → Sound
-  unfolding allows
-  allowed-sound w t = was-other _ _ _ _ _ (λ q. omega (arith, t .real)) (was-above _ _ _ _ _ (t .some) (passed _ _ _ _ _ w .1))
-
-  pub sound-allowed : end e ≤ top → (Touched off stop e → Sound) → allows d off stop e ≡ fine
-  unfolding allows
-  sound-allowed h s = go (le-or-gt (min stop (end e)) (max off (e .logical))) (le-or-gt (e .phys) 0)
-    where
-      go : (min stop (end e) ≤ max off (e .logical)) ⊎ (max off (e .logical) < min stop (end e)) → (e .phys ≤ 0) ⊎ (0 < e .phys) → allows d off stop e ≡ fine
-      go (inl t) u = sym (at-most _ _ _ _ _ h (at-most _ _ _ _ _ t refl))
-      go (inr t) (inl u) = sym (at-most _ _ _ _ _ h (above _ _ _ _ _ t (same _ _ _ _ _ (omega arith) refl)))
-      go (inr t) (inr u) = sym (at-most _ _ _ _ _ h (above _ _ _ _ _ t (other _ _ _ _ _ (λ q. omega arith) (sym (s (record { some = t; real = u }))))))
+use Rattle.files.specs.Read.{over, byteAt, bytes, readAt, readAll}
+use Rattle.files.proofs.Spans.{span-length, span-part}
 
 -- a part of what can be read can be read
 reach-part : (d : Disk) (e : Extent) (a b c p : ℕ) → 0 < d .block → length (d .image) ≤ 2 ^ 64 → a < b → b ≤ c → reach d e p c ≡ fine → reach d e a b ≡ fine
@@ -118,10 +26,6 @@ reach-part d e a b c p pos small h k w =
     let m = mul-le-mul-right (d .block) (blocks-mono (d .block) pos b c k) in
     let n = mul-le-mul-right (d .block) (block-below (d .block) pos a b h) in
     rw (v .0) (lies-is d _ _ (omega (arith, pos)) (omega arith))
-
-pub reach-within : (d : Disk) (e : Extent) (a b : ℕ) → 0 < d .block → reach d e a b ≡ fine → e .phys * d .block + b ≤ length (d .image)
-unfolding reach
-reach-within d e a b pos w = omega (arith, lies-within d _ _ (went (counted d e) _ _ w .1), blocks-hold (d .block) pos b)
 
 module _ (d : Disk) (size off stop : ℕ) (pos : 0 < d .block) (small : length (d .image) ≤ 2 ^ 64) (inside : stop ≤ size) where
   -- an extent that the whole read allows, every read allows
@@ -156,26 +60,26 @@ module _ (d : Disk) (size off : ℕ) (h : off < size) where
       go (inl k) ih = rw (seek-takes off best e es k) (ih (went (allows d 0 size e) _ _ (sym (decide-goes d 0 size e es (omega arith)) ∙ w) .1))
       go (inr k) ih = rw (seek-stays off best e es k) b
 
--- what `chain` says of the first two
-pub linked : (mark : Extent → ℕ) (at : ℕ) (e f : Extent) (es : List Extent) → chain mark at (e ∷ f ∷ es) ≡ fine → (mark e ≤ f .logical) × (chain mark (mark e) (f ∷ es) ≡ fine)
-unfolding chain
+-- what `inOrder` says of the first two
+pub linked : (mark : Extent → ℕ) (at : ℕ) (e f : Extent) (es : List Extent) → inOrder mark at (e ∷ f ∷ es) ≡ fine → (mark e ≤ f .logical) × (inOrder mark (mark e) (f ∷ es) ≡ fine)
+unfolding inOrder
 linked mark at e f es c = let q = passed _ _ _ _ _ c in (passed _ _ _ _ _ (q .1) .0, q .1)
 
 -- the whole read passes over extents of no length alone
-skipped : (d : Disk) (size at : ℕ) → 0 < size → (e : Extent) (es : List Extent) → chain end at (e ∷ es) ≡ fine
+skipped : (d : Disk) (size at : ℕ) → 0 < size → (e : Extent) (es : List Extent) → inOrder end at (e ∷ es) ≡ fine
     → decide d 0 size (seek 0 (e ∷ es) es) ≡ fine → decide d 0 size (e ∷ es) ≡ fine
 unfolding seek
 skipped d size at h e [] c w = w
 skipped d size at h e (f ∷ es) c w = go (linked end at e f es c) (le-or-gt (f .logical) 0) (skipped d size (end e) h f es)
   where
-    go : (end e ≤ f .logical) × (chain end (end e) (f ∷ es) ≡ fine) → (f .logical ≤ 0) ⊎ (0 < f .logical)
-        → (chain end (end e) (f ∷ es) ≡ fine → decide d 0 size (seek 0 (f ∷ es) es) ≡ fine → decide d 0 size (f ∷ es) ≡ fine) → decide d 0 size (e ∷ f ∷ es) ≡ fine
+    go : (end e ≤ f .logical) × (inOrder end (end e) (f ∷ es) ≡ fine) → (f .logical ≤ 0) ⊎ (0 < f .logical)
+        → (inOrder end (end e) (f ∷ es) ≡ fine → decide d 0 size (seek 0 (f ∷ es) es) ≡ fine → decide d 0 size (f ∷ es) ≡ fine) → decide d 0 size (e ∷ f ∷ es) ≡ fine
     go l (inl k) ih =
         decide-goes d 0 size e (f ∷ es) (omega arith)
         ∙ rw (sound-allowed d 0 size e (omega arith) (λ t. absurd (omega (arith, t .some))), ih (l .1) (rw (seek-takes 0 (e ∷ f ∷ es) f es k) at w))
     go l (inr k) ih = rw (seek-stays 0 (e ∷ f ∷ es) f es k) at w
 
-pub unskipped : (d : Disk) (size : ℕ) → 0 < size → (es : List Extent) → chain end 0 es ≡ fine → decide d 0 size (since 0 es) ≡ fine → decide d 0 size es ≡ fine
+pub unskipped : (d : Disk) (size : ℕ) → 0 < size → (es : List Extent) → inOrder end 0 es ≡ fine → decide d 0 size (since 0 es) ≡ fine → decide d 0 size es ≡ fine
 unfolding seek
 unskipped d size h [] c w = w
 unskipped d size h (e ∷ es) c w = go (le-or-gt (e .logical) 0)
@@ -185,8 +89,8 @@ unskipped d size h (e ∷ es) c w = go (le-or-gt (e .logical) 0)
     go (inr k) = rw (seek-stays 0 (e ∷ es) e es k) at w
 
 -- starts ascend where each starts past the end of the one before it
-pub apart-ascend : (at₁ at₂ : ℕ) (es : List Extent) → at₁ ≤ at₂ → chain end at₂ es ≡ fine → chain start at₁ es ≡ fine
-unfolding chain
+pub apart-ascend : (at₁ at₂ : ℕ) (es : List Extent) → at₁ ≤ at₂ → inOrder end at₂ es ≡ fine → inOrder start at₁ es ≡ fine
+unfolding inOrder
 apart-ascend at₁ at₂ [] h c = refl
 apart-ascend at₁ at₂ (e ∷ es) h c =
     let q = passed _ _ _ _ _ c in
@@ -199,18 +103,18 @@ unfolding over
 over-past d i e z h = sym (at-most _ _ _ _ _ (omega arith) (at-most _ _ _ _ _ h refl))
 
 module _ (d : Disk) (off i : ℕ) (h : off ≤ i) where
-  seek-byte : (at : ℕ) (e : Extent) (es : List Extent) (z : ℕ) → chain end at (e ∷ es) ≡ fine → byteAt d i (seek off (e ∷ es) es) z ≡ byteAt d i (e ∷ es) z
+  seek-byte : (at : ℕ) (e : Extent) (es : List Extent) (z : ℕ) → inOrder end at (e ∷ es) ≡ fine → byteAt d i (seek off (e ∷ es) es) z ≡ byteAt d i (e ∷ es) z
   unfolding seek byteAt
   seek-byte at e [] z c = refl
   seek-byte at e (f ∷ es) z c = go (linked end at e f es c) (le-or-gt (f .logical) off) (seek-byte (end e) f es z)
     where
-      go : (end e ≤ f .logical) × (chain end (end e) (f ∷ es) ≡ fine) → (f .logical ≤ off) ⊎ (off < f .logical)
-          → (chain end (end e) (f ∷ es) ≡ fine → byteAt d i (seek off (f ∷ es) es) z ≡ byteAt d i (f ∷ es) z) → byteAt d i (seek off (e ∷ f ∷ es) (f ∷ es)) z ≡ byteAt d i (e ∷ f ∷ es) z
+      go : (end e ≤ f .logical) × (inOrder end (end e) (f ∷ es) ≡ fine) → (f .logical ≤ off) ⊎ (off < f .logical)
+          → (inOrder end (end e) (f ∷ es) ≡ fine → byteAt d i (seek off (f ∷ es) es) z ≡ byteAt d i (f ∷ es) z) → byteAt d i (seek off (e ∷ f ∷ es) (f ∷ es)) z ≡ byteAt d i (e ∷ f ∷ es) z
       go l (inl k) ih = rw (seek-takes off (e ∷ f ∷ es) f es k, over-past d i e z (omega arith)) (ih (l .1))
       go l (inr k) ih = rw (seek-stays off (e ∷ f ∷ es) f es k)
 
   -- no byte from off on depends on an extent before the last that starts at or before off
-  pub since-byte : (es : List Extent) → chain end 0 es ≡ fine → byteAt d i (since off es) 0 ≡ byteAt d i es 0
+  pub since-byte : (es : List Extent) → inOrder end 0 es ≡ fine → byteAt d i (since off es) 0 ≡ byteAt d i es 0
   unfolding seek
   since-byte [] c = refl
   since-byte (e ∷ es) c = go (le-or-gt (e .logical) off)
@@ -222,11 +126,11 @@ module _ (d : Disk) (off i : ℕ) (h : off ≤ i) where
 -- ---- reads
 
 module _ (d : Disk) (size : ℕ) (es : List Extent) (off len : ℕ) where
-  pub read-past : chain start 0 es ≡ fine → size ≤ off → readAt d size es off len ≡ got []
+  pub read-past : inOrder start 0 es ≡ fine → size ≤ off → readAt d size es off len ≡ got []
   unfolding readAt
   read-past c h = rw c (sym (at-most _ _ _ _ _ h refl))
 
-  pub read-is : chain start 0 es ≡ fine → off < size → decide d off (off + min len (size - off)) (since off es) ≡ fine
+  pub read-is : inOrder start 0 es ≡ fine → off < size → decide d off (off + min len (size - off)) (since off es) ≡ fine
       → readAt d size es off len ≡ got (bytes d es off (min len (size - off)))
   unfolding readAt
   read-is c h w = rw c (sym (above _ _ _ _ _ h (rw w)))
@@ -234,7 +138,7 @@ module _ (d : Disk) (size : ℕ) (es : List Extent) (off len : ℕ) where
   pub read-was : (bs : List ℕ) → off < size → readAt d size es off len ≡ got bs
       → (decide d off (off + min len (size - off)) (since off es) ≡ fine) × (got (bytes d es off (min len (size - off))) ≡ got bs)
   unfolding readAt
-  read-was bs h e = went _ _ _ (was-above _ _ (got []) _ _ h (went (chain start 0 es) _ _ e .1))
+  read-was bs h e = went _ _ _ (was-above _ _ (got []) _ _ h (went (inOrder start 0 es) _ _ e .1))
 
   -- the answer is exactly as long as what there is
   pub read-length : (bs : List ℕ) → readAt d size es off len ≡ got bs → length bs ≡ min len (size - off)
@@ -243,7 +147,7 @@ module _ (d : Disk) (size : ℕ) (es : List Extent) (off len : ℕ) where
     where
       go : (size ≤ off) ⊎ (off < size) → length bs ≡ min len (size - off)
       go (inl h) =
-          let q : bs ≡ [] = cc (was-most _ _ _ _ _ h (went (chain start 0 es) _ _ e .1)) in
+          let q : bs ≡ [] = cc (was-most _ _ _ _ _ h (went (inOrder start 0 es) _ _ e .1)) in
           rw q (omega arith)
       go (inr h) =
           let q : bs ≡ bytes d es off (min len (size - off)) = cc (read-was bs h e .1) in
@@ -252,20 +156,20 @@ module _ (d : Disk) (size : ℕ) (es : List Extent) (off len : ℕ) where
 module _ (d : Disk) (size : ℕ) (es : List Extent) (bs : List ℕ) (pos : 0 < d .block) (small : length (d .image) ≤ 2 ^ 64) (all : readAll d size es ≡ got bs) where
   all-length : length bs ≡ size
   unfolding readAll
-  all-length = read-length d size es 0 size bs (went (chain end 0 es) _ _ all .1) ∙ omega arith
+  all-length = read-length d size es 0 size bs (went (inOrder end 0 es) _ _ all .1) ∙ omega arith
 
   -- THE LAW
   pub read-part : (off len : ℕ) → readAt d size es off len ≡ got (take len (drop off bs))
   unfolding readAll bytes
   read-part off len = go (le-or-gt size off)
     where
-      a : (chain end 0 es ≡ fine) × (readAt d size es 0 size ≡ got bs)
-      a = went (chain end 0 es) _ _ all
+      a : (inOrder end 0 es ≡ fine) × (readAt d size es 0 size ≡ got bs)
+      a = went (inOrder end 0 es) _ _ all
 
       n : ℕ
       n = min len (size - off)
 
-      up : chain start 0 es ≡ fine
+      up : inOrder start 0 es ≡ fine
       up = apart-ascend 0 0 es (omega arith) (a .0)
 
       go : (size ≤ off) ⊎ (off < size) → readAt d size es off len ≡ got (take len (drop off bs))

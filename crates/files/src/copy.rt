@@ -1,12 +1,12 @@
 // An extent's bytes, copied into the buffer.
-use crate::extents::Seen;
-use crate::extents::look;
-use crate::verdict::block_size;
-use crate::verdict::larger;
-use crate::verdict::smaller;
 use btree::Search;
 use cursor::Step;
 use cursor::next;
+use extents::Seen;
+use extents::block_size;
+use extents::larger;
+use extents::look;
+use extents::smaller;
 use obj::Reader;
 use records::Extent;
 use text::clear;
@@ -16,10 +16,10 @@ ghost use Prim.Native.Nat.{_+_, _^_, _≤_, _<_};
 ghost use lib.ListN.{length, replicate};
 ghost use Rattle.cursor.specs.Left.{runOf};
 ghost use Rattle.records.specs.Extent.{extentAt};
-ghost use Rattle.files.specs.Verdict.{fine};
-ghost use Rattle.files.specs.Read.{diskOf, allows};
-ghost use Rattle.files.specs.Extents.{extentsIn};
-ghost use Rattle.files.specs.Copy.{lay, pasted, Ready};
+ghost use Rattle.extents.specs.Verdict.{fine};
+ghost use Rattle.extents.specs.Extents.{diskOf, allows};
+ghost use Rattle.extents.specs.Inner.{extentsIn};
+ghost use Rattle.files.specs.Inner.{lay, pasted, Ready};
 
 fn paste_at(image: &[u8], out: &mut [u8], at: usize, from: usize, n: usize)
     requires { ⌜ (at + n ≤ length (now out)) × (from + n ≤ length (now image)) ⌝ }

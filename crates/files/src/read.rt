@@ -1,11 +1,11 @@
 // A part of a file (fs.rs, `read_at`).
 use crate::copy::fill;
-use crate::deciding::judge;
-use crate::verdict::Ruling;
-use crate::verdict::smaller;
 use btree::Search;
 use bytes::Number;
 use error::Refusal;
+use extents::Ruling;
+use extents::judge;
+use extents::smaller;
 use inode_record::Inode;
 use inode_record::StreamField;
 use lists::search;
@@ -14,7 +14,8 @@ ghost use mathlib.Core.Path.{_≡_};
 ghost use Prim.Native.Nat.{_+_, _-_, _≤_, min};
 ghost use lib.ListN.{length};
 ghost use Rattle.calls.specs.Filled.{answered};
-ghost use Rattle.files.specs.File.{sizeOf, stopOf, readOver, readFile, readTold};
+ghost use Rattle.files.specs.File.{sizeOf, readFile, readTold};
+ghost use Rattle.files.specs.Inner.{stopOf, readOver};
 
 // How many bytes were read, and the nodes gone through.
 pub struct FileRead {

@@ -21,13 +21,14 @@ use Rattle.records.specs.declared.attribute.AttributeData.{AttributeData}
 use Rattle.records.specs.declared.attribute.AttributeData.the-variants.{Embedded, Stream}
 use Rattle.records.specs.declared.attribute.StreamData.{StreamData}
 use Rattle.inode_record.specs.declared.inode.Inode.{Inode}
-use Rattle.files.specs.File.{packed, sizeOf}
-use Rattle.files.specs.Ruling.{ruled}
-use Rattle.files.specs.declared.verdict.Ruling.{Ruling}
-use Rattle.streams.specs.Streams.{settledTold, settledOf, streamOf, streamBytes}
+use Rattle.files.specs.File.{compressed, sizeOf, readPlain}
+use Rattle.extents.specs.Ruling.{ruled}
+use Rattle.extents.specs.declared.verdict.Ruling.{Ruling}
+use Rattle.streams.specs.Streams.{settledTold, settledOf, streamOf}
+use Rattle.streams.specs.Inner.{streamBytes}
 use Rattle.streams.specs.declared.settle.Settled.{Settled}
 use Rattle.streams.proofs.Contents.{stream-settled}
-use Rattle.contents.specs.Whole.{settledWhole, readPlain}
+use Rattle.contents.specs.Whole.{settledWhole}
 use Rattle.contents.proofs.Plain.{plain-settled}
 use Rattle.links.specs.Link.{contentsBy, contentsOf}
 use Rattle.lines.specs.Shown.{attributeShown, formShown, plain}
@@ -112,11 +113,11 @@ module _ (room : ℕ) (b : List ℕ) (v : Volume) (i : Inode) (o z : Output) whe
     unfolding plainTrace
     plain-refused w q h = reading-no room _ _ o w z (settled-no (r .nodes) (r .ruling) _ _ whole-ruling w q) h
 
-  pub data-packed : packed i ≡ 1 → z ≡ puts room (contentsLine shown.packed []) o → z ≡ run room (dataTrace b v i) o
+  pub data-packed : compressed i ≡ 1 → z ≡ puts room (contentsLine shown.packed []) o → z ≡ run room (dataTrace b v i) o
   unfolding dataTrace
   data-packed q h = run-says room _ o z h ∙ ap (λ (t : Trace). run room t o) (same _ _ _ _ _ q refl)
 
-  pub data-plain : (packed i ≡ 1 → ⊥) → z ≡ run room (plainTrace b v i) o → z ≡ run room (dataTrace b v i) o
+  pub data-plain : (compressed i ≡ 1 → ⊥) → z ≡ run room (plainTrace b v i) o → z ≡ run room (dataTrace b v i) o
   unfolding dataTrace
   data-plain q h = h ∙ ap (λ (t : Trace). run room t o) (other _ _ _ _ _ q refl)
 

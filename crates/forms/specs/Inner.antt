@@ -17,9 +17,8 @@ use Rattle.records.specs.declared.attribute.StreamData.{StreamData}
 use Rattle.records.specs.declared.directory.Entry.{Entry}
 use Rattle.inode_record.specs.declared.inode.Inode.{Inode}
 use Rattle.lists.specs.Lists.{attributesOf, entriesOf}
-use Rattle.files.specs.File.{packed}
+use Rattle.files.specs.File.{compressed, readPlain}
 use Rattle.streams.specs.Streams.{streamOf}
-use Rattle.contents.specs.Whole.{readPlain}
 use Rattle.links.specs.Link.{contentsOf}
 use Rattle.lines.specs.Shown.{inodeShown, attributeShown, plain}
 use Rattle.lines.specs.Shown as shown
@@ -95,7 +94,7 @@ unfoldable pub plainTrace : List ℕ → Volume → Inode → Trace
 plainTrace b v i = reading (readPlain b v i 0 .answer) λ d. says (contentsLine (plain d) [])
 
 unfoldable pub dataTrace : List ℕ → Volume → Inode → Trace
-dataTrace b v i = ifEq (packed i) 1 (says (contentsLine shown.packed [])) (plainTrace b v i)
+dataTrace b v i = ifEq (compressed i) 1 (says (contentsLine shown.packed [])) (plainTrace b v i)
 
 -- a node up to its entries
 unfoldable pub headTrace : List ℕ → Volume → Inode → Trace

@@ -4,7 +4,7 @@ use crate::seen::SeenAttribute;
 use crate::seen::look_attribute;
 use cursor::first;
 use cursor::next;
-use files::Ruling;
+use extents::Ruling;
 use lines::put_attribute_embedded;
 use lines::put_attribute_head;
 use lists::search;
@@ -24,7 +24,7 @@ ghost use Rattle.records.specs.Attribute.{attributeAt};
 ghost use Rattle.lists.specs.Lists.{searchOf};
 ghost use Rattle.lines.specs.Shown.{attributeShown};
 ghost use Rattle.lines.specs.Lines.{attributeLine};
-ghost use Rattle.streams.specs.Streams.{streamBytes};
+ghost use Rattle.streams.specs.Inner.{streamBytes};
 ghost use Rattle.forms.specs.Inner.{run, readable, streamTrace, attributeTrace, attributeTraces};
 
 // A line with a stream's bytes, where the stream can be read.

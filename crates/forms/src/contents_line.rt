@@ -1,7 +1,7 @@
 // The data of a node: a file's bytes, or that it is packed.
 use crate::refusing::refuse;
 use contents::settle_whole;
-use files::Ruling;
+use extents::Ruling;
 use files::size_of;
 use inode_record::Inode;
 use streams::put_stream_hex;
@@ -14,7 +14,7 @@ ghost use Rattle.text.specs.Output.{outputOf, puts};
 ghost use Rattle.files.specs.File.{sizeOf};
 ghost use Rattle.lines.specs.Shown.{plain};
 ghost use Rattle.lines.specs.Lines.{contentsLine};
-ghost use Rattle.streams.specs.Streams.{streamBytes};
+ghost use Rattle.streams.specs.Inner.{streamBytes};
 ghost use Rattle.forms.specs.Inner.{run, plainTrace, dataTrace};
 
 // The line of a file that can be read whole.

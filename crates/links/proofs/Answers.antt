@@ -12,7 +12,7 @@ use Rattle.inode_record.specs.declared.inode.Inode.{Inode}
 use Rattle.lists.specs.Told.{attributeFound}
 use Rattle.lists.specs.declared.attributes.AttributeAt.{AttributeAt}
 use Rattle.lists.specs.declared.attributes.AttributeFound.{AttributeFound}
-use Rattle.files.specs.declared.verdict.Ruling.{Ruling}
+use Rattle.extents.specs.declared.verdict.Ruling.{Ruling}
 use Rattle.streams.specs.Streams.{settledTold}
 use Rattle.streams.specs.declared.settle.Settled.{Settled}
 use Rattle.calls.specs.Filled.{Filled, filled, Answered, answered}

@@ -21,11 +21,9 @@ use Rattle.records.specs.Extent.{extentTold, extentAt}
 use Rattle.records.specs.declared.extent.Extent.{Extent}
 use Rattle.records.specs.declared.extent.ExtentRead.{ExtentRead}
 use Rattle.lists.specs.Lists.{searchOf}
-use Rattle.files.specs.Read.{Disk, diskOf}
-use Rattle.files.specs.Stream.{taken}
-use Rattle.files.proofs.StreamLaws.{taken-sparse, taken-real}
-use Rattle.streams.specs.Step.{wantedOf, nextPos, stepBytes}
-use Rattle.streams.specs.Streams.{runBytes, streamBytes}
+use Rattle.extents.specs.Extents.{Disk, diskOf}
+use Rattle.streams.specs.Inner.{taken, wantedOf, nextPos, stepBytes, runBytes, streamBytes}
+use Rattle.streams.proofs.StreamLaws.{taken-sparse, taken-real}
 use Rattle.streams.proofs.Laws as stream-laws
 use Rattle.streams.proofs.Pouring.{drop-least}
 

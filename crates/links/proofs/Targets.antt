@@ -16,8 +16,9 @@ use Rattle.records.specs.Attribute.{attributeBytes}
 use Rattle.records.specs.declared.attribute.AttributeData.{AttributeData}
 use Rattle.records.specs.declared.attribute.AttributeData.the-variants.{Embedded, Stream}
 use Rattle.records.specs.declared.attribute.StreamData.{StreamData}
-use Rattle.files.specs.Verdict.{fine}
-use Rattle.streams.specs.Streams.{settledOf, streamBytes}
+use Rattle.extents.specs.Verdict.{fine}
+use Rattle.streams.specs.Streams.{settledOf}
+use Rattle.streams.specs.Inner.{streamBytes}
 use Rattle.streams.proofs.Contents.{stream-settled}
 use Rattle.links.specs.Link.{contentsBy, textOf}
 use Rattle.links.specs.Settled.{settledBy, bytesBy}

@@ -9,8 +9,9 @@ use Rattle.records.specs.Attribute.{attributeBytes}
 use Rattle.records.specs.declared.attribute.Attribute.{Attribute}
 use Rattle.records.specs.declared.attribute.AttributeData.{AttributeData}
 use Rattle.records.specs.declared.attribute.AttributeData.the-variants.{Embedded, Stream}
-use Rattle.files.specs.Verdict.{fine}
-use Rattle.streams.specs.Streams.{settledOf, streamBytes}
+use Rattle.extents.specs.Verdict.{fine}
+use Rattle.streams.specs.Streams.{settledOf}
+use Rattle.streams.specs.Inner.{streamBytes}
 
 unfoldable pub settledBy : List ℕ → Volume → AttributeData → ℕ → Counted (Unit {0})
 settledBy b v (Embedded x) s = after s fine

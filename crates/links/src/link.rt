@@ -4,7 +4,7 @@ use crate::target::settle_contents;
 use crate::target::show;
 use bytes::Number;
 use error::Refusal;
-use files::Ruling;
+use extents::Ruling;
 use inode_record::Inode;
 use lists::AttributeAt;
 use records::Attribute;

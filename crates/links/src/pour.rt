@@ -4,10 +4,10 @@ use bytes::Span;
 use bytes::part;
 use cursor::first;
 use cursor::next;
+use extents::smaller;
 use feed::Feed;
 use feed::push_all;
 use feed::push_zeros;
-use files::smaller;
 use lists::search;
 use obj::Reader;
 use records::Extent;
@@ -22,10 +22,8 @@ ghost use mathlib.Core.Path.{_≡_};
 ghost use mathlib.Core.List.{List, _++_};
 ghost use Prim.Native.Nat.{ℕ};
 ghost use Rattle.feed.specs.Fed.{fed};
-ghost use Rattle.files.specs.Read.{diskOf};
-ghost use Rattle.files.specs.Stream.{taken};
-ghost use Rattle.streams.specs.Step.{stepBytes};
-ghost use Rattle.streams.specs.Streams.{streamBytes};
+ghost use Rattle.extents.specs.Extents.{diskOf};
+ghost use Rattle.streams.specs.Inner.{taken, stepBytes, streamBytes};
 
 // The first n bytes of an extent.
 fn push_taken(

@@ -2,11 +2,11 @@
 use crate::pour::push_stream;
 use bytes::Number;
 use calls::number_at;
+use extents::Ruling;
 use feed::Feed;
 use feed::begin;
 use feed::finish;
 use feed::push_all;
-use files::Ruling;
 use records::Attribute;
 use records::AttributeData;
 use records::attribute_bytes;

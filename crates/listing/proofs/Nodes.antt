@@ -18,9 +18,8 @@ use Rattle.records.specs.declared.directory.Entry.{Entry}
 use Rattle.records.specs.declared.attribute.Attribute.{Attribute}
 use Rattle.inode_record.specs.declared.inode.Inode.{Inode}
 use Rattle.lists.specs.Lists.{searchOf, inodeOf, attributesOf, entriesOf}
-use Rattle.files.specs.File.{packed, readWhole}
+use Rattle.files.specs.File.{compressed, readWhole}
 use Rattle.links.specs.Link.{contentsOf}
-use Rattle.contents.specs.Whole.{readPlain}
 use Rattle.contents.proofs.Plain.{plain-whole}
 use Rattle.lines.specs.Shown.{InodeShown, EntryShown, AttributeShown, inodeShown, entryShown, attributeShown, plain}
 use Rattle.lines.specs.Lines.{nodeLine, entryLine, contentsLine, close}
@@ -62,7 +61,7 @@ module _ (b : List ℕ) (v : Volume) (id : ℕ) (i : Inode) (h : inodeOf b v id 
 
   data-as : dataLine (viewOf b v) (inodeShown (v .reader) b i) ≡ dataTrace b v i
   unfolding dataLine dataTrace plainTrace inodeShown contentsAnswer
-  data-as = packed-as _ _ _ (packed i) (λ q.
+  data-as = packed-as _ _ _ (compressed i) (λ q.
       ap (λ (a : Answer (List ℕ)). reading a λ d. says (contentsLine (plain d) []))
       (ap (λ (a : Answer Inode). a >>= λ j. readWhole b v j 0 .answer) own ∙ ap (λ (c : Counted (List ℕ)). c .answer) (plain-whole b v i 0 q)))
 

@@ -24,7 +24,7 @@ use Rattle.volume.specs.declared.VolumeOpening.{VolumeOpening}
 use Rattle.label.specs.Label.{labelOf}
 use Rattle.paths.specs.Names.{ruleOf}
 use Rattle.paths.specs.declared.names.NameRule.{NameRule}
-use Rattle.files.proofs.Verdicts.{le-or-gt}
+use Rattle.extents.proofs.Verdicts.{le-or-gt}
 use Rattle.lines.specs.Lines.{volumeLine, close}
 use Rattle.calls.specs.Filled.{Filled, filledAt}
 use Rattle.demand.specs.Trace.{End, done, stop, Trace, says, _then_, textOr, within}

@@ -15,14 +15,14 @@ use Rattle.volume.specs.declared.Volume.{Volume}
 use Rattle.records.specs.Extent.{extentAt}
 use Rattle.records.specs.declared.extent.Extent.{Extent}
 use Rattle.lists.specs.Lists.{searchOf, listOf, extentsOf}
-use Rattle.files.specs.Verdict.{Verdict, _>>_}
-use Rattle.files.specs.Read.{Disk, diskOf}
-use Rattle.files.specs.Stream.{stream, settle, taken, poured}
-use Rattle.files.proofs.Verdicts.{le-or-gt}
-use Rattle.files.proofs.StreamLaws.{stream-two}
-use Rattle.streams.specs.Step.{wantedOf, nextPos, stepBytes}
-use Rattle.streams.specs.Streams.{streamOf, settledOf, bytesThen, runBytes, streamBytes}
-use Rattle.streams.proofs.Laws.{pos-stays, pos-next}
+use Rattle.extents.specs.Verdict.{Verdict, _>>_}
+use Rattle.extents.specs.Extents.{Disk, diskOf}
+use Rattle.streams.specs.Stream.{stream}
+use Rattle.streams.specs.Inner.{settle, taken, poured, wantedOf, nextPos, stepBytes, bytesThen, runBytes, streamBytes, settledBy}
+use Rattle.extents.proofs.Verdicts.{le-or-gt}
+use Rattle.streams.proofs.StreamLaws.{stream-two}
+use Rattle.streams.specs.Streams.{streamOf, settledOf}
+use Rattle.streams.proofs.Laws.{pos-stays, pos-next, settled-is}
 
 poured-past : (d : Disk) (size pos : ℕ) (es : List Extent) → size ≤ pos → poured d size pos es ≡ []
 unfolding poured
@@ -72,7 +72,8 @@ settled-as d size n (got es) bs h = rw (stream-two d size 0 es, h es refl) (of (
 settled-as d size n (no w) bs h = refl
 
 pub stream-settled : (b : List ℕ) (v : Volume) (object size s : ℕ) → streamOf b v object size s ≡ (onto (settledOf b v object size s) λ u t. after t (got (streamBytes b v object size s)))
-unfolding streamOf settledOf streamBytes extentsOf
+unfolding streamOf settledBy streamBytes extentsOf
 stream-settled b v object size s =
-    settled-as (diskOf (v .reader) b) size (listOf (extentAt (v .reader) b) (scanOf b (searchOf v object 8) s) .nodes) (listOf (extentAt (v .reader) b) (scanOf b (searchOf v object 8) s) .answer) _
-    (λ es h. run-poured (extentAt (v .reader) b) (diskOf (v .reader) b) size 0 (scanOf b (searchOf v object 8) s) es h)
+    rw (settled-is b v object size s)
+    (settled-as (diskOf (v .reader) b) size (listOf (extentAt (v .reader) b) (scanOf b (searchOf v object 8) s) .nodes) (listOf (extentAt (v .reader) b) (scanOf b (searchOf v object 8) s) .answer) _
+    (λ es h. run-poured (extentAt (v .reader) b) (diskOf (v .reader) b) size 0 (scanOf b (searchOf v object 8) s) es h))

@@ -25,15 +25,16 @@ use Rattle.records.specs.declared.extent.ExtentRead.{ExtentRead}
 use Rattle.lists.specs.Lists.{searchOf, listOf, extentsOf}
 use Rattle.lists.proofs.Reading.{reading, list-start, list-end, list-next}
 use Rattle.lists.proofs.Turns as list-turns
-use Rattle.files.specs.Verdict.{Verdict, fine, _>>_, atMost}
-use Rattle.files.specs.Read.{Disk, diskOf, blocks, countedIn, counted, lies}
-use Rattle.files.specs.Stream.{ready, settle}
-use Rattle.files.specs.Ruling.{ruled}
-use Rattle.files.specs.declared.verdict.Ruling.{Ruling}
-use Rattle.files.proofs.Verdicts.{le-or-gt}
-use Rattle.files.proofs.VerdictLaws.{sum-last}
-use Rattle.streams.specs.Step.{wantedOf, nextPos, stepVerdict}
-use Rattle.streams.specs.Streams.{settledTold, settledOf}
+use Rattle.extents.specs.Verdict.{Verdict, fine, _>>_, atMost}
+use Rattle.extents.specs.Extents.{Disk, diskOf, blocks, countedIn, counted, lies}
+use Rattle.streams.specs.Inner.{ready, settle, wantedOf, nextPos, stepVerdict, poured, settledBy}
+use Rattle.extents.specs.Ruling.{ruled}
+use Rattle.extents.specs.declared.verdict.Ruling.{Ruling}
+use Rattle.extents.proofs.Verdicts.{le-or-gt}
+use Rattle.extents.proofs.VerdictLaws.{sum-last}
+use Rattle.streams.specs.Stream.{stream}
+use Rattle.streams.specs.Streams.{settledTold, streamOf, settledOf}
+use Rattle.streams.proofs.StreamLaws.{stream-two}
 use Rattle.streams.specs.declared.settle.Settled.{Settled}
 
 module _ (size : ℕ) (e : Extent) (a : ℕ) (p : a ≡ min (e .logical) size) where
@@ -149,10 +150,24 @@ module _ (rd : Reader) (b : List ℕ) (q : Search) (s : Step) (d : Disk) (size :
     settle-next t z m p r e f h g k l u =
         list-next (extentAt rd b) (settling d size v pos) b q s whole inv p f (settling d size z m) e t (list-turns.extent-was r (extentAt rd b p) h e g) (settling-next d size v z pos m e k l) u
 
+-- what settling refuses is what the stream refuses
+settled-one : (n : ℕ) (v : Verdict) (x : List ℕ) → (onto (after n (v >> got x)) λ bs t. after t fine) ≡ after n v
+settled-one n (got tt) x = refl
+settled-one n (no w) x = refl
+
+settled-from : (d : Disk) (size n : ℕ) (c : Answer (List Extent)) → (onto (onto (after n c) λ es t. after t (stream d size es)) λ bs t. after t fine) ≡ (onto (after n c) λ es t. after t (settle d size 0 es))
+unfolding stream
+settled-from d size n (got es) = rw (stream-two d size 0 es) (settled-one n (settle d size 0 es) (poured d size 0 es))
+settled-from d size n (no w) = refl
+
+pub settled-is : (b : List ℕ) (v : Volume) (object size s : ℕ) → settledOf b v object size s ≡ settledBy b v object size s
+unfolding settledOf settledBy streamOf
+settled-is b v object size s = settled-from (diskOf (v .reader) b) size (extentsOf b v object s .nodes) (extentsOf b v object s .answer)
+
 pub settle-done : (b : List ℕ) (v : Volume) (object size s n : ℕ) (q : Search) (x : Ruling) (r : Settled) → q ≡ searchOf v object 8 → r ≡ record { ruling = x; nodes = n }
     → after n (ruled x) ≡ (onto (listOf (extentAt (v .reader) b) (scanOf b q s)) λ es t. after t (settle (diskOf (v .reader) b) size 0 es)) → settledTold r ≡ settledOf b v object size s
-unfolding settledOf extentsOf
-settle-done b v object size s n q x r e h g = rw h (rw e at g)
+unfolding settledBy extentsOf
+settle-done b v object size s n q x r e h g = rw h (rw e at g) ∙ sym (settled-is b v object size s)
 
 pub ruleset all = (list-turns.turns, blocks-fit, wanted-is, within-size, pos-fits, pos-next, pos-stays, wanted-within)
 

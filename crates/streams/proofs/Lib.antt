@@ -1,3 +1,4 @@
+pub mod StreamLaws
 pub mod Laws
 pub mod Pouring
 pub mod Contents

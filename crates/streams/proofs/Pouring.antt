@@ -5,7 +5,7 @@ use mathlib.Core.List.{List, [], _∷_, _++_, append-nil}
 use native.Mathlib.Omega.{arith}
 use native.Mathlib.Nat.{div-lt-iff-lt-mul, le-div-iff-mul-le}
 use mathlib.Core.Logic.{_⊎_, inl, inr}
-use Rattle.files.proofs.Verdicts.{le-or-gt}
+use Rattle.extents.proofs.Verdicts.{le-or-gt}
 use Rattle.obj.specs.declared.reader.Reader.{Reader}
 use lib.ListN.{length, take, drop, replicate, drop-of-length-le}
 use lib.Seq.{take-nil}
@@ -32,11 +32,9 @@ use Rattle.records.specs.Extent.{extentTold, extentAt}
 use Rattle.records.specs.declared.extent.Extent.{Extent}
 use Rattle.records.specs.declared.extent.ExtentRead.{ExtentRead}
 use Rattle.lists.specs.Lists.{searchOf}
-use Rattle.files.specs.Read.{Disk, diskOf}
-use Rattle.files.specs.Stream.{taken}
-use Rattle.files.proofs.StreamLaws.{taken-sparse, taken-real}
-use Rattle.streams.specs.Step.{wantedOf, nextPos, stepBytes}
-use Rattle.streams.specs.Streams.{runBytes, streamBytes}
+use Rattle.extents.specs.Extents.{Disk, diskOf}
+use Rattle.streams.specs.Inner.{taken, wantedOf, nextPos, stepBytes, runBytes, streamBytes}
+use Rattle.streams.proofs.StreamLaws.{taken-sparse, taken-real}
 use Rattle.streams.proofs.Laws as laws
 
 -- one piece of a text of bytes, and what is left of it

@@ -15,7 +15,7 @@ use Rattle.text.specs.declared.Position.{Position}
 use Rattle.text.specs.declared.Position.the-variants.{At}
 use Rattle.text.proofs.Whole.{full}
 use Rattle.text.proofs.Writing.{puts-refused, byte-stopped}
-use Rattle.files.proofs.Verdicts.{le-or-gt}
+use Rattle.extents.proofs.Verdicts.{le-or-gt}
 
 -- a text longer than the room does not fit, wherever it would begin
 past-room : (room : ℕ) (t b : List ℕ) (k : ℕ) → room < length t → puts room t (at b k) ≡ refused BufferTooShort

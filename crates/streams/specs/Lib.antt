@@ -1,2 +1,3 @@
-pub mod Step
+pub mod Stream
 pub mod Streams
+pub mod Inner

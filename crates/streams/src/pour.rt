@@ -8,8 +8,8 @@ use bytes::part;
 use cursor::first;
 use cursor::next;
 use error::Refusal;
-use files::block_size;
-use files::smaller;
+use extents::block_size;
+use extents::smaller;
 use lists::search;
 use obj::Reader;
 use records::Extent;
@@ -24,10 +24,8 @@ ghost use Prim.Native.Nat.{_*_, min, max};
 ghost use lib.ListN.{length, replicate};
 ghost use Rattle.text.specs.Output.{outputOf, puts};
 ghost use Rattle.text.specs.Words.{pairs};
-ghost use Rattle.files.specs.Read.{diskOf};
-ghost use Rattle.files.specs.Stream.{taken};
-ghost use Rattle.streams.specs.Step.{stepBytes};
-ghost use Rattle.streams.specs.Streams.{streamBytes};
+ghost use Rattle.extents.specs.Extents.{diskOf};
+ghost use Rattle.streams.specs.Inner.{taken, stepBytes, streamBytes};
 
 // n zero bytes.
 fn write_zeros(out: &mut [u8], room: usize, p: Position, n: u64) -> Position

@@ -4,7 +4,7 @@ use crate::step::step_at;
 use btree::Found;
 use cursor::first;
 use cursor::next;
-use files::Ruling;
+use extents::Ruling;
 use lists::search;
 use obj::Reader;
 use records::Extent;
@@ -12,9 +12,9 @@ use records::ExtentRead;
 use records::extent_at;
 use volume::Volume;
 ghost use mathlib.Core.Path.{_≡_};
-ghost use Rattle.files.specs.Read.{diskOf};
-ghost use Rattle.files.specs.Ruling.{ruled};
-ghost use Rattle.streams.specs.Step.{stepAfter};
+ghost use Rattle.extents.specs.Extents.{diskOf};
+ghost use Rattle.extents.specs.Ruling.{ruled};
+ghost use Rattle.streams.specs.Inner.{stepAfter};
 ghost use Rattle.streams.specs.Streams.{settledTold, settledOf};
 
 // A ruling, and the nodes gone through.

@@ -1,18 +1,17 @@
 // One extent of a stream.
 use error::Refusal;
-use files::Ruling;
-use files::blocks_in;
-use files::counted_at;
-use files::lies_at;
-use files::smaller;
+use extents::Ruling;
+use extents::blocks_in;
+use extents::counted_at;
+use extents::lies_at;
+use extents::smaller;
 use obj::Reader;
 use records::Extent;
 ghost use mathlib.Core.Path.{_≡_};
 ghost use Prim.Native.Nat.{_-_, _≤_};
-ghost use Rattle.files.specs.Read.{diskOf};
-ghost use Rattle.files.specs.Stream.{ready};
-ghost use Rattle.files.specs.Ruling.{ruled};
-ghost use Rattle.streams.specs.Step.{wantedOf, nextPos, stepVerdict};
+ghost use Rattle.extents.specs.Extents.{diskOf};
+ghost use Rattle.streams.specs.Inner.{ready, wantedOf, nextPos, stepVerdict};
+ghost use Rattle.extents.specs.Ruling.{ruled};
 
 // How many of the extent's bytes belong to the stream.
 pub fn wanted(size: u64, e: Extent) -> u64

@@ -6,15 +6,15 @@ use Rattle.cursor.specs.Left.{runOf}
 use Rattle.records.specs.Extent.{extentAt}
 use Rattle.lists.specs.Lists.{listOf}
 use Rattle.lists.proofs.Reading.{reading}
-use Rattle.files.specs.Read.{end, chain}
-use Rattle.files.specs.Ruling.{ruled}
+use Rattle.extents.specs.Extents.{end, inOrder}
+use Rattle.extents.specs.Ruling.{ruled}
 use borrow.Author.Needs.{needs}
-use Rattle.contents.proofs.Laws.{aparts, chaining, apart-next}
+use Rattle.contents.proofs.Laws.{aparts, ordering, apart-next}
 use Rattle.contents.proofs.apart.Statement.{statement}
 use Rattle.contents.proofs.apart.Tie as tie
 
 abbrev Inv-loop : tie.InvT-loop
-Inv-loop image q nodes reader ruling₀ last₀ s₀ ruling last s = reading (extentAt (q .reader) image) (chaining (ruled ruling) last) (runOf image q s) ≡ (onto (listOf (extentAt (q .reader) image) (scanOf image q nodes)) λ es t. after t (chain end 0 es))
+Inv-loop image q nodes reader ruling₀ last₀ s₀ ruling last s = reading (extentAt (q .reader) image) (ordering (ruled ruling) last) (runOf image q s) ≡ (onto (listOf (extentAt (q .reader) image) (scanOf image q nodes)) λ es t. after t (inOrder end 0 es))
 
 abbrev μ-loop : tie.MeasureT-loop
 μ-loop image q nodes reader ruling₀ last₀ s₀ ruling last s = size (runOf image q s)

@@ -5,9 +5,9 @@ use lib.ListN.{length}
 use Rattle.btree.proofs.Places.{size}
 use Rattle.cursor.specs.Left.{runOf}
 use Rattle.records.specs.Extent.{extentAt}
-use Rattle.files.specs.Read.{diskOf}
-use Rattle.files.specs.Extents.{extentsIn}
-use Rattle.files.specs.Copy.{lay}
+use Rattle.extents.specs.Extents.{diskOf}
+use Rattle.extents.specs.Inner.{extentsIn}
+use Rattle.files.specs.Inner.{lay}
 use Rattle.files.proofs.CopyTurns.{fills, Filling, fill-whole, fill-over, fill-no, fill-halt}
 use Rattle.files.proofs.copy.fill.Statement.{statement}
 use Rattle.files.proofs.copy.fill.Tie as tie

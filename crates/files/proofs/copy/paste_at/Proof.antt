@@ -3,7 +3,7 @@ use Prim.Native.Nat.{_-_, _≤_}
 use mathlib.Core.Path.{_≡_}
 use native.Mathlib.Omega.{arith}
 use lib.ListN.{length, length-set}
-use Rattle.files.specs.Copy.{pasted}
+use Rattle.files.specs.Inner.{pasted}
 use Rattle.files.proofs.PasteLaws.{pasted-none, pasted-more, pasted-end}
 use Rattle.files.proofs.copy.paste_at.Statement.{statement}
 use Rattle.files.proofs.copy.paste_at.Tie as tie

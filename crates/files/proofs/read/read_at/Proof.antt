@@ -1,5 +1,5 @@
 use borrow.Author.Needs.{needs}
-use Rattle.files.proofs.FileLaws.{file-packed, file-read}
+use Rattle.files.proofs.FileLaws.{file-compressed, file-read}
 use Rattle.files.proofs.read.read_at.Statement.{statement}
 use Rattle.files.proofs.read.read_at.Tie as tie
 
@@ -7,7 +7,7 @@ pub read-at-spec : {M : Type 1} → statement M
 read-at-spec =
     tie.close
     (tie.spec
-    (λ c. search (needs, file-packed))
+    (λ c. search (needs, file-compressed))
     (λ c κs. search needs)
     (λ c κs. search needs)
     (λ c κs. search needs)

@@ -17,6 +17,6 @@ read-over-spec =
     (λ c. search (needs, call-none))
     (λ c. search needs)
     (λ c. search (needs, part-length))
-    (λ c κs. call-ready _ _ _ _ _ _ _ _ (c .before .before .before .before .before .before .before .wanted .ensures) (c .before .before .before .before .before .before .stop-of .ensures) _ (c .before .before .before .before .before .judge .ensures) (search needs) (λ z. omega arith) (omega arith))
+    (λ c κs. call-ready _ _ _ _ _ _ _ _ (c .before .before .before .before .before .before .before .wanted .ensures) (c .before .before .before .before .before .before .stop-of .ensures) (c .before .before .before .before .before .judge .result) (c .before .before .before .before .before .judge .ensures) (search needs) (λ z. omega arith) (omega arith))
     (λ c. search needs)
     (λ c. search (needs, call-filled)))

@@ -5,8 +5,8 @@ use Rattle.btree.specs.Scan.{scanOf}
 use Rattle.btree.proofs.Places as places
 use Rattle.cursor.specs.Left.{runOf}
 use Rattle.records.specs.Extent.{extentAt}
-use Rattle.files.specs.Read.{diskOf}
-use Rattle.streams.specs.Streams.{runBytes}
+use Rattle.extents.specs.Extents.{diskOf}
+use Rattle.streams.specs.Inner.{runBytes}
 use Rattle.links.proofs.Pouring.{Feeds, pouring, stream-next}
 use Rattle.links.proofs.pour.push_stream.Statement.{statement}
 use Rattle.links.proofs.pour.push_stream.Tie as tie

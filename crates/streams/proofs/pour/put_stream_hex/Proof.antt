@@ -7,8 +7,8 @@ use Rattle.cursor.specs.Left.{runOf}
 use Rattle.text.specs.Output.{outputOf, puts}
 use Rattle.text.specs.Words.{pairs}
 use Rattle.records.specs.Extent.{extentAt}
-use Rattle.files.specs.Read.{diskOf}
-use Rattle.streams.specs.Streams.{runBytes}
+use Rattle.extents.specs.Extents.{diskOf}
+use Rattle.streams.specs.Inner.{runBytes}
 use borrow.Author.Needs.{needs}
 use Rattle.streams.proofs.Pouring.{pouring, pour-start, pour-next}
 use Rattle.streams.proofs.pour.put_stream_hex.Statement.{statement}

@@ -6,9 +6,9 @@ use Rattle.cursor.specs.Left.{runOf}
 use Rattle.records.specs.Extent.{extentAt}
 use Rattle.lists.specs.Lists.{listOf}
 use Rattle.lists.proofs.Reading.{reading}
-use Rattle.files.specs.Read.{diskOf}
-use Rattle.files.specs.Stream.{settle}
-use Rattle.files.specs.Ruling.{ruled}
+use Rattle.extents.specs.Extents.{diskOf}
+use Rattle.streams.specs.Inner.{settle}
+use Rattle.extents.specs.Ruling.{ruled}
 use borrow.Author.Needs.{needs}
 use Rattle.streams.proofs.Laws.{settles, settling, settle-next}
 use Rattle.streams.proofs.settle.settle_stream.Statement.{statement}

@@ -1,0 +1,6 @@
+pub mod Verdicts
+pub mod ExtentLaws
+pub mod VerdictLaws
+pub mod JudgeLaws
+pub mod SeenLaws
+pub mod JudgeTurns

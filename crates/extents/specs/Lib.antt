@@ -1,0 +1,4 @@
+pub mod Verdict
+pub mod Extents
+pub mod Ruling
+pub mod Inner
