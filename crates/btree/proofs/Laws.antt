@@ -1,25 +1,28 @@
 -- How a caller's answer goes on from what an entry gives.
-use Prim.Native.Nat.{ℕ, _<_}
-use mathlib.Core.Path.{_≡_}
+use Prim.Native.Nat.{ℕ, _≤_, _<_}
+use mathlib.Core.Path.{_≡_, refl, ap, _∙_}
 use mathlib.Core.List.{List}
 use native.Mathlib.Omega.{arith}
-use Rattle.error.specs.Answer.{Answer, got, no, _>>=_}
+use Rattle.error.specs.Answer.{Answer, got, no, _>>=_, ifLe}
 use Rattle.error.specs.declared.Refusal.{Refusal}
-use Rattle.error.proofs.Laws.{le-cases}
+use Rattle.error.proofs.Laws.{at-most, above, le-cases}
 use Rattle.bytes.specs.Number as bytes
 use Rattle.bytes.specs.Part.{partOf}
 use Rattle.bytes.specs.declared.Number.{Number}
 use Rattle.bytes.specs.declared.Span.{Span}
 use Rattle.node.specs.Node.{parsed}
-use Rattle.node.specs.Entry.{entryAt, childAt}
+use Rattle.node.specs.Entry.{keyValueAt, childAt}
 use Rattle.node.specs.declared.table.KeyValue.{KeyValue}
 use Rattle.node.specs.declared.layout.Node.{Node}
 use Rattle.node.specs.declared.layout.Info.{Info}
 use Rattle.node.specs.declared.layout.Parsed.{Parsed}
 use Rattle.node.specs.declared.table.Value.{Value}
-use Rattle.lookup.specs.Counted.{Counted, after, from}
+use Rattle.lookup.specs.Counted.{Counted, after, onto}
+use Rattle.lookup.specs.Path.{Through, atOnce, by, on, countAlong, counted}
+use Rattle.lookup.specs.Read.{nodeAt}
+use Rattle.lookup.specs.Map.{resolve, resolveAt}
 use Rattle.lookup.proofs.Laws as lookup-laws
-use Rattle.btree.specs.Entries.{bytesOf, orderTold, orderAt, keyOrder, byOrder, recordOf, passOver, recordAt}
+use Rattle.btree.specs.Entries.{bytesOf, orderTold, orderAt, keyOrder, byOrder, recordOf, passOver, recordAt, Act, into, childNode}
 use Rattle.btree.specs.declared.entries.Search.{Search}
 use Rattle.btree.specs.declared.entries.Order.{Order}
 use Rattle.btree.specs.declared.entries.Order.the-variants as order
@@ -52,22 +55,48 @@ module _ {B : Type 0} (r : Ordered) (a : Answer Order) (p : orderTold r ≡ a) w
   pub order-stop : (f : Order → Answer B) (e : Refusal) → r ≡ Ordered.No e → no e ≡ (a >>= f)
   order-stop f e q = rw (← p, q)
 
-  pub order-on : (f : Order → Counted B) (s : ℕ) (x : Order) (y : Counted B) → r ≡ Ordered.Got x → y ≡ f x → y ≡ from s a f
+  pub order-on : (f : Order → Through B) (s : ℕ) (x : Order) (y : Counted B) → r ≡ Ordered.Got x → y ≡ counted s (f x) → y ≡ counted s (on a f)
   order-on f s x y q h = rw (← p, q) h
 
-  pub order-off : (f : Order → Counted B) (s : ℕ) (e : Refusal) → r ≡ Ordered.No e → after s (no e) ≡ from s a f
+  pub order-off : (f : Order → Through B) (s : ℕ) (e : Refusal) → r ≡ Ordered.No e → after s (no e) ≡ counted s (on a f)
+  unfolding counted countAlong
   order-off f s e q = rw (← p, q)
 
-module _ {B : Type 0} (r : Parsed) (a : Answer Node) (p : parsed r ≡ a) (f : Node → Counted B) (s : ℕ) where
-  pub node-on : (x : Node) (y : Counted B) → r ≡ Parsed.Got x → y ≡ f x → y ≡ from s a f
+module _ {B : Type 0} (r : Parsed) (a : Answer Node) (p : parsed r ≡ a) (f : Node → Through B) (s : ℕ) where
+  pub node-on : (x : Node) (y : Counted B) → r ≡ Parsed.Got x → y ≡ counted s (f x) → y ≡ counted s (on a f)
   node-on x y q h = rw (← p, q) h
 
-  pub node-off : (e : Refusal) → r ≡ Parsed.No e → after s (no e) ≡ from s a f
+  pub node-off : (e : Refusal) → r ≡ Parsed.No e → after s (no e) ≡ counted s (on a f)
+  unfolding counted countAlong
   node-off e q = rw (← p, q)
+
+-- a counted answer, by a test
+module _ {A : Type 0} (s : ℕ) (x y : Through A) (w : Counted A) where
+  pub counted-most : (a b : ℕ) → a ≤ b → w ≡ counted s x → w ≡ counted s (ifLe a b x y)
+  counted-most a b h e = e ∙ ap (counted s) (at-most _ _ _ _ _ h refl)
+
+  pub counted-above : (a b : ℕ) → b < a → w ≡ counted s y → w ≡ counted s (ifLe a b x y)
+  counted-above a b h e = e ∙ ap (counted s) (above _ _ _ _ _ h refl)
+
+module _ {A : Type 0} (s : ℕ) (o : Order) (x y z : Through A) (w : Counted A) where
+  pub counted-below : o ≡ order.Below → w ≡ counted s x → w ≡ counted s (byOrder o x y z)
+  counted-below q e = e ∙ ap (counted s) (order-below o x y z _ q refl)
+
+  pub counted-inside : o ≡ order.Inside → w ≡ counted s y → w ≡ counted s (byOrder o x y z)
+  counted-inside q e = e ∙ ap (counted s) (order-inside o x y z _ q refl)
+
+  pub counted-over : o ≡ order.Above → w ≡ counted s z → w ≡ counted s (byOrder o x y z)
+  counted-over q e = e ∙ ap (counted s) (order-above o x y z _ q refl)
+
+-- a child, its name having been looked up
+pub child-node : (b : List ℕ) (q : Search) (child s : ℕ) (z : Counted Act) →
+    z ≡ (onto (resolveAt (q .reader) b (q .resolve) child s) λ p n. counted n (on (nodeAt (q .reader) b p) λ c. by p (atOnce (got (into c))))) → z ≡ counted s (childNode b q child)
+unfolding childNode resolveAt
+child-node b q child s z e = lookup-laws.counted-then s (resolve (q .reader) b (q .resolve) child) _ z e
 
 -- an entry that stands somehow is one of the node's
 pub order-known : (b : List ℕ) (q : Search) (m : Node) (i : ℕ) (r : Ordered) (o : Order) → orderTold r ≡ orderAt b q m i → r ≡ Ordered.Got o → i < m .nkeys
-unfolding orderAt entryAt
+unfolding orderAt keyValueAt
 order-known b q m i r o p e =
     le-cases (λ (z : Answer KeyValue). got o ≡ (z >>= λ x. keyOrder q (partOf (bytesOf b q m) (x .key))) → i < m .nkeys)
     (λ h g. absurd (let z : _≡_ {A = ℕ} 0 1 = cc in omega arith))
@@ -85,11 +114,12 @@ module _ (s u : List ℕ) (e : s ≡ u) where
   pub order-stop-in : {B : Type 0} (q : Search) (r : Ordered) (f : Order → Answer B) (w : Refusal) → orderTold r ≡ keyOrder q s → r ≡ Ordered.No w → no w ≡ (keyOrder q u >>= f)
   order-stop-in q r f w p g = order-stop r (keyOrder q u) (rw e at p) f w g
 
-  module _ {B : Type 0} (m : Node) (info : Info) (i : ℕ) (r : Number) (p : bytes.told r ≡ childAt s m info i) (f : ℕ → Counted B) (n : ℕ) where
-    pub child-on-in : (x : ℕ) (y : Counted B) → r ≡ Number.Got x → y ≡ f x → y ≡ from n (childAt u m info i) f
+  module _ {B : Type 0} (m : Node) (info : Info) (i : ℕ) (r : Number) (p : bytes.told r ≡ childAt s m info i) (f : ℕ → Through B) (n : ℕ) where
+    pub child-on-in : (x : ℕ) (y : Counted B) → r ≡ Number.Got x → y ≡ counted n (f x) → y ≡ counted n (on (childAt u m info i) f)
     child-on-in x y q h = rw (← e, ← p, q) h
 
-    pub child-off-in : (w : Refusal) → r ≡ Number.No w → after n (no w) ≡ from n (childAt u m info i) f
+    pub child-off-in : (w : Refusal) → r ≡ Number.No w → after n (no w) ≡ counted n (on (childAt u m info i) f)
+    unfolding counted countAlong
     child-off-in w q = rw (← e, ← p, q)
 
   pub part-in : (x : Span) (z : List ℕ) → z ≡ partOf s x → z ≡ partOf u x
@@ -104,6 +134,6 @@ module _ (m : Node) (key : Span) (x : Value) where
   unfolding recordOf
   record-missing q = rw q
 
-pub ruleset all = (lookup-laws.all, got-same, counted-same, order-below, order-inside, order-above, order-step, order-stop, order-on, order-off, node-on, node-off)
+pub ruleset all = (lookup-laws.all, got-same, counted-same, order-below, order-inside, order-above, order-step, order-stop, order-on, order-off, node-on, node-off, lookup-laws.counted-now, lookup-laws.counted-by, counted-most, counted-above, counted-below, counted-inside, counted-over)
 
 pub ruleset parts = (lookup-laws.parts, order-in, order-step-in, order-stop-in, child-on-in, child-off-in, part-in)

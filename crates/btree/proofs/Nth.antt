@@ -2,6 +2,7 @@
 use Prim.Native.Nat.{ℕ, zero, suc, _+_, _-_, _≤_, _<_}
 use mathlib.Core.Path.{_≡_, refl, ap, _∙_}
 use mathlib.Core.List.{List}
+use mathlib.Core.Option.{Option, none, some}
 use native.Mathlib.Omega.{arith}
 use borrow.Author.Needs.{needs}
 use Rattle.error.specs.Answer.{got, no}
@@ -11,9 +12,11 @@ use Rattle.arith.specs.Checked.{ticked}
 use Rattle.node.specs.Node.{leafBit}
 use Rattle.node.specs.declared.layout.Node.{Node}
 use Rattle.lookup.specs.Counted.{Counted, after}
+use Rattle.lookup.specs.Path.{counted}
 use Rattle.btree.specs.Entries.{itemTold, itemAt, turnTold, turnAt}
-use Rattle.btree.specs.Scan.{Run, more, end, refused, Tail, leafFrom, each, node, child, walk, scanOf, Met, at, none, nth, foundTold}
-use Rattle.btree.specs.Pass.{met, passTold, foundOf}
+use Rattle.btree.specs.Scan.{Run, more, end, refused, Tail, scanOf, nth, foundTold}
+use Rattle.btree.specs.Inner.{leafFrom, each, node, child, walk}
+use Rattle.btree.specs.Inner.{met, passTold, foundOf}
 use Rattle.btree.specs.declared.entries.Search.{Search}
 use Rattle.btree.specs.declared.entries.Place.{Place}
 use Rattle.btree.specs.declared.entries.Found.{Found}
@@ -36,8 +39,8 @@ unfolding nth
 nth-refused zero s e = refl
 nth-refused (suc n) s e = refl
 
-module _ (n : ℕ) (p : Place) (s : ℕ) (r : Run) (whole : Counted Met) (h : nth n (more p s r) ≡ whole) where
-  pub nth-here : n ≡ 0 → after s (got (at p)) ≡ whole
+module _ (n : ℕ) (p : Place) (s : ℕ) (r : Run) (whole : Counted (Option Place)) (h : nth n (more p s r) ≡ whole) where
+  pub nth-here : n ≡ 0 → after s (got (some p)) ≡ whole
   unfolding nth
   nth-here z = rw z at h
 
@@ -46,7 +49,7 @@ module _ (n : ℕ) (p : Place) (s : ℕ) (r : Run) (whole : Counted Met) (h : nt
   nth-past z = let k : n ≡ suc (n - 1) = omega arith in rw k at h
 
 -- a turn at an entry of a leaf
-module _ (b : List ℕ) (q : Search) (m : Node) (i n s : ℕ) (k : Run) (whole : Counted Met) (p : nth n (leafFrom b q m (m .nkeys - i) i s k) ≡ whole) where
+module _ (b : List ℕ) (q : Search) (m : Node) (i n s : ℕ) (k : Run) (whole : Counted (Option Place)) (p : nth n (leafFrom b q m (m .nkeys - i) i s k) ≡ whole) where
   pub pass-done : m .nkeys ≤ i → nth n k ≡ whole
   pass-done h = ap (nth n) (leaf-done b q m i s k _ refl h) ∙ p
 
@@ -64,7 +67,7 @@ module _ (b : List ℕ) (q : Search) (m : Node) (i n s : ℕ) (k : Run) (whole :
       there : nth n (more x s (leafFrom b q m (m .nkeys - (i + 1)) (i + 1) s k)) ≡ whole
       there = ap (nth n) (leaf-at b q m i s k _ refl lt r t x e) ∙ p
 
-      pub pass-here : n ≡ 0 → after s (got (at x)) ≡ whole
+      pub pass-here : n ≡ 0 → after s (got (some x)) ≡ whole
       pass-here z = nth-here n _ _ _ whole there z
 
       pub pass-past : (n ≡ 0 → ⊥) → nth (n - 1) (leafFrom b q m (m .nkeys - (i + 1)) (i + 1) s k) ≡ whole
@@ -73,7 +76,7 @@ module _ (b : List ℕ) (q : Search) (m : Node) (i n s : ℕ) (k : Run) (whole :
 pub ruleset leaves = (needs, pass-done, pass-over, pass-stop, pass-no, pass-here, pass-past)
 
 -- an answer that was made
-module _ (r : Passed) (s : ℕ) (k : Tail) (whole : Counted Met) where
+module _ (r : Passed) (s : ℕ) (k : Tail) (whole : Counted (Option Place)) where
   pub made-left : (x : ℕ) → r ≡ record { pass = Left x; nodes = s } → nth x (k s) ≡ whole → passTold r k ≡ whole
   unfolding passTold
   made-left x e h = rw e h
@@ -117,11 +120,11 @@ kept r j k h = of (r .pass) h
     of (No w) f = refl
 
 -- a turn at an entry of an index node, c nodes having been gone through
-module _ (f : Node → Tail → Tail) (b : List ℕ) (q : Search) (m : Node) (i n : ℕ) (k : Tail) (c : ℕ) (whole : Counted Met) (p : nth n (each f b q m (m .nkeys - i) i k c) ≡ whole) where
+module _ (f : Node → Tail → Tail) (b : List ℕ) (q : Search) (m : Node) (i n : ℕ) (k : Tail) (c : ℕ) (whole : Counted (Option Place)) (p : nth n (each f b q m (m .nkeys - i) i k c) ≡ whole) where
   pub turn-done : m .nkeys ≤ i → nth n (k c) ≡ whole
   turn-done h = ap (nth n) (each-done f b q m i k c _ refl h) ∙ p
 
-  module _ (lt : i < m .nkeys) (r : Turned) (t : turnTold r ≡ turnAt b q m i c) where
+  module _ (lt : i < m .nkeys) (r : Turned) (t : turnTold r ≡ counted c (turnAt b q m i)) where
     pub turn-stop : r .turn ≡ turn.Stop → after (r .nodes) (got none) ≡ whole
     turn-stop e = nth-end n (r .nodes) ∙ (ap (nth n) (each-stop f b q m i k c _ refl lt r t e) ∙ p)
 
@@ -153,7 +156,7 @@ module _ (b : List ℕ) (q : Search) (level n : ℕ) (m : Node) (k : Tail) (s : 
   pub pass-off : (level ≡ 0 → ⊥) → (m .level ≡ level - 1 → ⊥) → after s (no Corrupt) ≡ nth n (child b q level m k s)
   pass-off h d = nth-refused n s Corrupt ∙ ap (nth n) (child-off b q m k s level h d)
 
-  pub pass-in : (z : Counted Met) → (level ≡ 0 → ⊥) → m .level ≡ level - 1 → z ≡ nth n (walk b q (level - 1) m 0 k s) → z ≡ nth n (child b q level m k s)
+  pub pass-in : (z : Counted (Option Place)) → (level ≡ 0 → ⊥) → m .level ≡ level - 1 → z ≡ nth n (walk b q (level - 1) m 0 k s) → z ≡ nth n (child b q level m k s)
   pass-in z h d e = e ∙ ap (nth n) (child-on b q m k s level _ h d refl)
 
 module _ (f : Node → Tail → Tail) (b : List ℕ) (q : Search) (n : ℕ) (m : Node) (k : Tail) (s : ℕ) where

@@ -8,18 +8,21 @@ use borrow.Author.Needs.{needs}
 use Rattle.error.specs.Answer.{ifEq}
 use Rattle.error.specs.declared.Refusal.{Refusal}
 use Rattle.error.specs.declared.Refusal.the-variants.{Corrupt}
-use Rattle.error.proofs.Laws.{at-most, above, same, other}
+use Rattle.error.proofs.Laws.{same, other}
 use Rattle.arith.specs.Checked.{ticked}
 use Rattle.node.specs.Node.{leafBit}
 use Rattle.node.specs.declared.layout.Node.{Node}
+use Rattle.lookup.specs.Path.{counted}
 use Rattle.btree.specs.Entries.{itemTold, itemAt, turnTold, turnAt}
-use Rattle.btree.specs.Scan.{Run, more, end, refused, Tail, leafThen, leafFrom, act, each, node, child, walk, scanOf}
+use Rattle.btree.specs.Scan.{Run, more, end, refused, Tail, scanOf}
+use Rattle.btree.specs.Inner.{leafThen, leafFrom, act, each, node, child, walk}
 use Rattle.btree.specs.declared.entries.Search.{Search}
 use Rattle.btree.specs.declared.entries.Place.{Place}
 use Rattle.btree.specs.declared.entries.Item.{Item}
 use Rattle.btree.specs.declared.entries.Item.the-variants as item
 use Rattle.btree.specs.declared.entries.Turn.the-variants as turn
 use Rattle.btree.specs.declared.entries.Turned.{Turned}
+use Rattle.btree.proofs.Parts.{walk-scan, high-scan}
 
 -- a turn at an entry of a leaf
 module _ (b : List ℕ) (q : Search) (m : Node) (i s : ℕ) (k whole : Run) (p : leafFrom b q m (m .nkeys - i) i s k ≡ whole) where
@@ -54,7 +57,7 @@ module _ (f : Node → Tail → Tail) (b : List ℕ) (q : Search) (m : Node) (i 
   unfolding each
   each-done h = let n : m .nkeys - i ≡ 0 = omega arith in rw n at p
 
-  module _ (lt : i < m .nkeys) (r : Turned) (t : turnTold r ≡ turnAt b q m i s) where
+  module _ (lt : i < m .nkeys) (r : Turned) (t : turnTold r ≡ counted s (turnAt b q m i)) where
     acts : act f (turnTold r) (each f b q m (m .nkeys - (i + 1)) (i + 1) k) ≡ whole
     unfolding each
     acts = let n : m .nkeys - i ≡ suc (m .nkeys - (i + 1)) = omega arith in rw t (rw n at p)
@@ -111,11 +114,9 @@ module _ (b : List ℕ) (q : Search) (m : Node) (k : Tail) (s : ℕ) where
 -- the root, by its level
 module _ (b : List ℕ) (q : Search) (s : ℕ) where
   pub root-low : (n : ℕ) (z : Run) → q .root .level ≤ 32 → n ≡ ticked s → z ≡ walk b q (q .root .level) (q .root) 0 end n → z ≡ scanOf b q s
-  unfolding scanOf
-  root-low n z h t e = at-most _ _ _ _ _ h (rw t at e)
+  root-low n z h t e = (rw t at e) ∙ walk-scan b q s h
 
   pub root-high : 32 < q .root .level → refused Corrupt s ≡ scanOf b q s
-  unfolding scanOf
-  root-high h = above _ _ _ _ _ h refl
+  root-high h = high-scan b q s h
 
 pub ruleset turns = (needs, leaf-done, leaf-pass, leaf-stop, leaf-at, leaf-no, each-done, each-stop, each-skip, each-into, each-no, node-leaf, node-index, child-lowest, child-off, child-on, root-high)

@@ -5,16 +5,16 @@ use Rattle.error.specs.Answer.{Answer, got, no, _>>=_, ifLe, ifEq}
 use Rattle.bytes.specs.Number.{numberAt}
 use Rattle.bytes.specs.Part.{partOf}
 use Rattle.bytes.specs.declared.Span.{Span}
-use Rattle.arith.specs.Checked.{ticked}
 use Rattle.obj.specs.Block.{blockOf}
 use Rattle.obj.specs.declared.reader.Reader.{Reader}
-use Rattle.node.specs.Entry.{entryAt, childAt}
+use Rattle.node.specs.Entry.{keyValueAt, childAt}
 use Rattle.node.specs.declared.layout.Node.{Node}
 use Rattle.node.specs.declared.table.Value.{Value}
 use Rattle.node.specs.declared.table.Value.the-variants as value
-use Rattle.lookup.specs.Counted.{Counted, after, from, onto}
+use Rattle.lookup.specs.Counted.{Counted, after}
+use Rattle.lookup.specs.Path.{Through, atOnce, by, on, andThen}
 use Rattle.lookup.specs.Read.{nodeAt}
-use Rattle.lookup.specs.Map.{resolveAt}
+use Rattle.lookup.specs.Map.{resolve}
 use Rattle.btree.specs.declared.entries.Search.{Search}
 use Rattle.btree.specs.declared.entries.Place.{Place}
 use Rattle.btree.specs.declared.entries.Order.{Order}
@@ -54,7 +54,7 @@ keyOrder q key = numberAt 8 key 0 >>= λ h. got (orderOf q h)
 
 -- how the i-th entry of a node stands to what is searched (btree.rs, `window`)
 unfoldable pub orderAt : List ℕ → Search → Node → ℕ → Answer Order
-orderAt b q m i = entryAt (bytesOf b q m) m (q .info) i >>= λ e. keyOrder q (partOf (bytesOf b q m) (e .key))
+orderAt b q m i = keyValueAt (bytesOf b q m) m (q .info) i >>= λ e. keyOrder q (partOf (bytesOf b q m) (e .key))
 
 unfoldable pub byOrder : {A : Type 0} → Order → A → A → A → A
 byOrder Below x y z = x
@@ -81,7 +81,7 @@ recordOf m key value.Missing = passOver
 -- the i-th entry of a leaf, read with its value
 unfoldable pub itemAt : List ℕ → Search → Node → ℕ → Answer Leaf
 itemAt b q m i =
-    entryAt (bytesOf b q m) m (q .info) i >>= λ e.
+    keyValueAt (bytesOf b q m) m (q .info) i >>= λ e.
     keyOrder q (partOf (bytesOf b q m) (e .key)) >>= λ o.
     byOrder o (got passOver) (got (recordOf m (e .key) (e .value))) (got endScan)
 
@@ -100,24 +100,23 @@ actTold (turn.No e) = no e
 abbrev pub turnTold : Turned → Counted Act
 turnTold t = after (t .nodes) (actTold (t .turn))
 
--- the node of a child, s nodes having been gone through: it counts once its block has passed as a node (btree.rs, `read_child`)
-unfoldable pub childNode : List ℕ → Search → ℕ → ℕ → Counted Act
-childNode b q child s =
-    onto (resolveAt (q .reader) b (q .resolve) child s) λ p t.
-    from t (nodeAt (q .reader) b p) λ c.
-    after (ticked t) (got (into c))
+-- the node of a child: its name may be looked up in an object map, and it is gone through once its block has passed as a node (btree.rs, `read_child`)
+unfoldable pub childNode : List ℕ → Search → ℕ → Through Act
+childNode b q child =
+    andThen (resolve (q .reader) b (q .resolve) child) λ p.
+    on (nodeAt (q .reader) b p) λ c.
+    by p (atOnce (got (into c)))
 
 -- the child of the i-th entry
-unfoldable pub enterAt : List ℕ → Search → Node → ℕ → ℕ → Counted Act
-enterAt b q m i s = from s (childAt (bytesOf b q m) m (q .info) i) λ child. childNode b q child s
+unfoldable pub enterAt : List ℕ → Search → Node → ℕ → Through Act
+enterAt b q m i = on (childAt (bytesOf b q m) m (q .info) i) (childNode b q)
 
 -- an entry whose next is still below is skipped, any other's child is entered: the next is read before the child (btree.rs, `scan_node`)
-unfoldable pub followAt : List ℕ → Search → Node → ℕ → ℕ → Counted Act
-followAt b q m i s =
-    ifLe (m .nkeys) (i + 1) (enterAt b q m i s)
-    (from s (orderAt b q m (i + 1)) λ o. byOrder o (after s (got skip)) (enterAt b q m i s) (enterAt b q m i s))
+unfoldable pub followAt : List ℕ → Search → Node → ℕ → Through Act
+followAt b q m i =
+    ifLe (m .nkeys) (i + 1) (enterAt b q m i)
+    (on (orderAt b q m (i + 1)) λ o. byOrder o (atOnce (got skip)) (enterAt b q m i) (enterAt b q m i))
 
 -- the i-th entry of an index node; one above ends the scan
-unfoldable pub turnAt : List ℕ → Search → Node → ℕ → ℕ → Counted Act
-turnAt b q m i s =
-    from s (orderAt b q m i) λ o. byOrder o (followAt b q m i s) (followAt b q m i s) (after s (got stop))
+unfoldable pub turnAt : List ℕ → Search → Node → ℕ → Through Act
+turnAt b q m i = on (orderAt b q m i) λ o. byOrder o (followAt b q m i) (followAt b q m i) (atOnce (got stop))

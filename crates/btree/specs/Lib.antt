@@ -1,3 +1,4 @@
 pub mod Entries
-pub mod Pass
 pub mod Scan
+pub mod Inner
+pub mod Count

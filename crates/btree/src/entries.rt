@@ -19,6 +19,7 @@ use obj::Reader;
 ghost use mathlib.Core.Path.{_≡_};
 ghost use Prim.Native.Nat.{_<_};
 ghost use Rattle.error.specs.Answer.{got};
+ghost use Rattle.lookup.specs.Path.{counted};
 ghost use Rattle.btree.specs.Entries.{keyOf, valueOf, orderTold, keyOrder, orderOf, orderAt, itemTold, itemAt, recordOf, turnTold, childNode, enterAt, followAt, turnAt};
 
 // The records of an id and a kind in the tree below a root.
@@ -177,7 +178,7 @@ pub fn item_at(image: &[u8], q: Search, node: Node, i: u32) -> Item
 
 // The node that a child's name leads to.
 fn read_child(image: &[u8], q: Search, child: u64, nodes: u64) -> Turned
-    ensures { λ r. ⌜ turnTold r ≡ childNode (now (image .entry)) q child nodes ⌝ }
+    ensures { λ r. ⌜ turnTold r ≡ counted nodes (childNode (now (image .entry)) q child) ⌝ }
 {
     let resolve = q.resolve;
     let resolved = resolve_child(q.reader, image, resolve, child, nodes);
@@ -205,7 +206,7 @@ fn read_child(image: &[u8], q: Search, child: u64, nodes: u64) -> Turned
 
 // The child of the i-th entry of an index node.
 fn enter(image: &[u8], q: Search, node: Node, i: u32, nodes: u64) -> Turned
-    ensures { λ r. ⌜ turnTold r ≡ enterAt (now (image .entry)) q node i nodes ⌝ }
+    ensures { λ r. ⌜ turnTold r ≡ counted nodes (enterAt (now (image .entry)) q node i) ⌝ }
 {
     match child_of(q.reader.block(image, node.block), node, q.info, i) {
         Number::Got(child) => read_child(image, q, child, nodes),
@@ -219,7 +220,7 @@ fn enter(image: &[u8], q: Search, node: Node, i: u32, nodes: u64) -> Turned
 // The child of an entry, unless the entry after it is still below.
 fn follow(image: &[u8], q: Search, node: Node, i: u32, nodes: u64) -> Turned
     requires { ⌜ i < node .nkeys ⌝ }
-    ensures { λ r. ⌜ turnTold r ≡ followAt (now (image .entry)) q node i nodes ⌝ }
+    ensures { λ r. ⌜ turnTold r ≡ counted nodes (followAt (now (image .entry)) q node i) ⌝ }
 {
     if node.nkeys <= i + 1 {
         return enter(image, q, node, i, nodes);
@@ -242,7 +243,7 @@ fn follow(image: &[u8], q: Search, node: Node, i: u32, nodes: u64) -> Turned
 
 // The i-th entry of an index node.
 pub fn decide(image: &[u8], q: Search, node: Node, i: u32, nodes: u64) -> Turned
-    ensures { λ r. ⌜ turnTold r ≡ turnAt (now (image .entry)) q node i nodes ⌝ }
+    ensures { λ r. ⌜ turnTold r ≡ counted nodes (turnAt (now (image .entry)) q node i) ⌝ }
 {
     match order_at(image, q, node, i) {
         Ordered::Got(o) => match o {

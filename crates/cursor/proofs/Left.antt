@@ -11,9 +11,12 @@ use Rattle.error.specs.declared.Refusal.{Refusal}
 use Rattle.arith.specs.Checked.{ticked}
 use Rattle.node.specs.Node.{leafBit}
 use Rattle.node.specs.declared.layout.Node.{Node}
+use Rattle.lookup.specs.Path.{counted}
 use Rattle.btree.specs.Entries.{turnTold, turnAt}
-use Rattle.btree.specs.Scan.{Run, more, end, refused, Tail, leafFrom, each, node, child, walk, scanOf}
-use Rattle.cursor.specs.Left.{noFrame, noneLeft, frameOf, withFrame, levels, over, left, onward, runOf, inWhole, partThen, partRun, foundThen}
+use Rattle.btree.specs.Scan.{Run, more, end, refused, Tail, scanOf}
+use Rattle.btree.specs.Inner.{leafFrom, each, node, child, walk}
+use Rattle.cursor.specs.Left.{noFrame, levels, left, runOf, foundThen}
+use Rattle.cursor.specs.Inner.{noneLeft, frameOf, withFrame, over, onward, inWhole, partThen, partRun}
 use Rattle.btree.specs.declared.entries.Search.{Search}
 use Rattle.btree.specs.declared.entries.Place.{Place}
 use Rattle.btree.specs.declared.entries.Turn.the-variants as turn
@@ -119,7 +122,7 @@ module _ (b : List ℕ) (q : Search) (r : PartStep) (k : Tail) (whole : Run) (p 
 
 -- a turn that went into a child, and s came of it
 module _ (f : Node → Tail → Tail) (b : List ℕ) (q : Search) (m : Node) (i : ℕ) (k : Tail) (n : ℕ) (whole : Run) (p : each f b q m (m .nkeys - i) i k n ≡ whole) (lt : i < m .nkeys)
-    (r : Turned) (t : turnTold r ≡ turnAt b q m i n) (c : Node) (g : r .turn ≡ turn.Into c)
+    (r : Turned) (t : turnTold r ≡ counted n (turnAt b q m i)) (c : Node) (g : r .turn ≡ turn.Into c)
     (s : PartStep) (e : partRun b q s (each f b q m (m .nkeys - (i + 1)) (i + 1) k) ≡ f c (each f b q m (m .nkeys - (i + 1)) (i + 1) k) (r .nodes)) where
   came : partRun b q s (each f b q m (m .nkeys - (i + 1)) (i + 1) k) ≡ whole
   came = e ∙ each-into f b q m i k n whole p lt r t c g

@@ -13,8 +13,10 @@ ghost use mathlib.Core.Path.{_≡_};
 ghost use Prim.Native.Nat.{_-_, _<_};
 ghost use lib.ListN.{length};
 ghost use Rattle.node.specs.Node.{leafBit};
-ghost use Rattle.btree.specs.Scan.{leafFrom, walk, child, scanOf};
-ghost use Rattle.cursor.specs.Left.{noneLeft, frameOf, withFrame, over, left, onward, runOf, partRun, inWhole};
+ghost use Rattle.btree.specs.Scan.{scanOf};
+ghost use Rattle.btree.specs.Inner.{leafFrom, walk, child};
+ghost use Rattle.cursor.specs.Left.{left, runOf};
+ghost use Rattle.cursor.specs.Inner.{noneLeft, frameOf, withFrame, over, onward, partRun, inWhole};
 
 // A node on the path, and the entry at which it goes on.
 pub struct Frame {

@@ -1,34 +1,14 @@
 -- No answer depends on how many nodes were gone through before: the count is carried along, and nothing looks at it.
-use Prim.Native.Nat.{ℕ, zero, suc, _+_, _-_}
+use Prim.Native.Nat.{ℕ}
 use mathlib.Core.Path.{_≡_, refl, sym, ap, _∙_}
 use mathlib.Core.Bool.{Bool, true, false}
-use mathlib.Core.List.{List, [], _∷_}
-use lib.Dec.{leb, eqb}
-use Rattle.error.specs.Answer.{Answer, got, no, _>>=_, pick, ifLe, ifEq}
-use Rattle.error.specs.declared.Refusal.{Refusal}
-use Rattle.error.specs.declared.Refusal.the-variants.{Corrupt}
-use Rattle.error.proofs.Laws.{eq-cases}
-use Rattle.arith.specs.Checked.{ticked}
-use Rattle.obj.specs.declared.reader.Reader.{Reader}
-use Rattle.node.specs.Node.{leafBit}
-use Rattle.node.specs.Entry.{childAt}
-use Rattle.node.specs.declared.layout.Node.{Node}
-use Rattle.node.specs.declared.layout.Info.{Info}
+use mathlib.Core.List.{List, _∷_}
+use lib.Dec.{eqb}
+use Rattle.error.specs.Answer.{Answer, got, no, _>>=_, pick, ifEq}
 use Rattle.lookup.specs.Counted.{Counted, after, from, onto}
-use Rattle.lookup.specs.Read.{nodeAt}
-use Rattle.lookup.specs.Lookup.{Step, nothing, found, into, Outcome, stepAt, walked, lookNode, lookChild, lookupLe}
-use Rattle.lookup.specs.Map.{mappingOf, blockFor, mapLookup, mapResolve, resolveAt}
-use Rattle.lookup.specs.declared.descent.Target.{Target}
-use Rattle.lookup.specs.declared.map.Map.{Map}
-use Rattle.lookup.specs.declared.map.Resolve.{Resolve}
-use Rattle.lookup.specs.declared.map.Resolve.the-variants.{Identity, Mapped}
-use Rattle.btree.specs.Entries.{bytesOf, Act, Leaf, passOver, endScan, recordAt, itemAt, childNode, enterAt, orderAt, byOrder, followAt, turnAt}
-use Rattle.btree.specs.Entries as entries
-use Rattle.btree.specs.Scan.{Run, more, end, refused, Tail, leafThen, leafFrom, acting, act, each, node, child, walk, scanOf, Met, nth}
+use Rattle.btree.specs.Scan.{Part, through, gives, passed, ended, failed, treePart, Run, more, end, refused, countedPart, scanOf, nth}
 use Rattle.btree.specs.declared.entries.Search.{Search}
 use Rattle.btree.specs.declared.entries.Place.{Place}
-use Rattle.btree.specs.declared.entries.Order.{Order}
-use Rattle.btree.specs.declared.entries.Order.the-variants.{Below, Inside, Above}
 use Rattle.volume.specs.declared.Volume.{Volume}
 use Rattle.records.specs.Directory.{entryAt}
 use Rattle.records.specs.Attribute.{attributeAt}
@@ -51,10 +31,6 @@ module _ {A B : Type 0} (g : A → B) (x y p q : A) where
   pick-even : (d : Bool) → g x ≡ g p → g y ≡ g q → g (pick d x y) ≡ g (pick d p q)
   pick-even true h k = h
   pick-even false h k = k
-
-  le-even : (a b : ℕ) → g x ≡ g p → g y ≡ g q → g (ifLe a b x y) ≡ g (ifLe a b p q)
-  unfolding ifLe
-  le-even a b h k = pick-even (leb a b) h k
 
   eq-even : (a b : ℕ) → g x ≡ g p → g y ≡ g q → g (ifEq a b x y) ≡ g (ifEq a b p q)
   unfolding ifEq
@@ -85,67 +61,6 @@ onto-answer {A} f g c a p h = rw p (of a)
     of (got x) = h x (c .nodes)
     of (no e) = refl
 
--- ---- a lookup in an object map
-
-module _ (r : Reader) (b : List ℕ) where
-  module _ (info : Info) (target : Target) where
-    walked-even : (f : Node → ℕ → Counted Outcome) → ((c : Node) (s t : ℕ) → f c s .answer ≡ f c t .answer) → (st : Step) (s t : ℕ) → walked f st s .answer ≡ walked f st t .answer
-    walked-even f h nothing s t = refl
-    walked-even f h (found x) s t = refl
-    walked-even f h (into c) s t = h c _ _
-
-    node-even : (f : Node → ℕ → Counted Outcome) → ((c : Node) (s t : ℕ) → f c s .answer ≡ f c t .answer) → (m : Node) (s t : ℕ)
-        → lookNode f r b info target m s .answer ≡ lookNode f r b info target m t .answer
-    unfolding lookNode
-    node-even f h m s t = from-even (stepAt r b info target m) (λ st. walked f st s) (λ st. walked f st t) s t (λ st. walked-even f h st s t)
-
-    child-even : (n : ℕ) (c : Node) (s t : ℕ) → lookChild r b info target n c s .answer ≡ lookChild r b info target n c t .answer
-    unfolding lookChild
-    child-even zero c s t = refl
-    child-even (suc n) c s t = eq-even said _ _ _ _ (c .level) n (node-even (lookChild r b info target n) (child-even n) c s t) refl
-
-    lookup-even : (root : Node) (s t : ℕ) → lookupLe r b info target root s .answer ≡ lookupLe r b info target root t .answer
-    unfolding lookupLe
-    lookup-even root s t = node-even (lookChild r b info target (root .level)) (child-even (root .level)) root _ _
-
-  map-even : (m : Map) (oid s t : ℕ) → mapLookup r b m oid s .answer ≡ mapLookup r b m oid t .answer
-  unfolding mapLookup
-  map-even m oid s t = told-even (mappingOf r b oid) _ _ (lookup-even (m .info) _ (m .root) s t)
-
-  resolve-even : (q : Resolve) (oid s t : ℕ) → resolveAt r b q oid s .answer ≡ resolveAt r b q oid t .answer
-  unfolding resolveAt mapResolve
-  resolve-even Identity oid s t = refl
-  resolve-even (Mapped m) oid s t = told-even blockFor _ _ (map-even m oid s t)
-
--- ---- an entry of an index node
-
-order-even : {A : Type 0} (o : Order) (x y z p q w : Counted A) → x .answer ≡ p .answer → y .answer ≡ q .answer → z .answer ≡ w .answer → byOrder o x y z .answer ≡ byOrder o p q w .answer
-unfolding byOrder
-order-even Below x y z p q w h k l = h
-order-even Inside x y z p q w h k l = k
-order-even Above x y z p q w h k l = l
-
-module _ (b : List ℕ) (q : Search) where
-  below-even : (c s t : ℕ) → childNode b q c s .answer ≡ childNode b q c t .answer
-  unfolding childNode
-  below-even c s t =
-      onto-even (λ p t. from t (nodeAt (q .reader) b p) λ c. after (ticked t) (got (entries.into c))) _ _ (resolve-even (q .reader) b (q .resolve) c s t)
-      (λ p s t. from-even (nodeAt (q .reader) b p) _ _ s t (λ c. refl))
-
-  enter-even : (m : Node) (i s t : ℕ) → enterAt b q m i s .answer ≡ enterAt b q m i t .answer
-  unfolding enterAt
-  enter-even m i s t = from-even (childAt (bytesOf b q m) m (q .info) i) _ _ s t (λ c. below-even c s t)
-
-  follow-even : (m : Node) (i s t : ℕ) → followAt b q m i s .answer ≡ followAt b q m i t .answer
-  unfolding followAt
-  follow-even m i s t =
-      le-even said _ _ _ _ (m .nkeys) (i + 1) (enter-even m i s t)
-      (from-even (orderAt b q m (i + 1)) _ _ s t (λ o. order-even o _ _ _ _ _ _ refl (enter-even m i s t) (enter-even m i s t)))
-
-  turn-even : (m : Node) (i s t : ℕ) → turnAt b q m i s .answer ≡ turnAt b q m i t .answer
-  unfolding turnAt
-  turn-even m i s t = from-even (orderAt b q m i) _ _ s t (λ o. order-even o _ _ _ _ _ _ (follow-even m i s t) (follow-even m i s t) refl)
-
 -- ---- a run, its counts left out
 
 unfoldable pub bare : Run → Run
@@ -153,52 +68,18 @@ bare (more p s r) = more p 0 (bare r)
 bare (end s) = end 0
 bare (refused e s) = refused e 0
 
-abbrev Even : Tail → Type 0
-Even k = (s t : ℕ) → bare (k s) ≡ bare (k t)
+-- a count is taken of a part, and of nothing else
+part-even : (x : Part) (s t : ℕ) → bare (countedPart x end s) ≡ bare (countedPart x end t)
+unfolding countedPart bare
+part-even (through p x) s t = part-even x _ _
+part-even (gives p x) s t = ap (more p 0) (part-even x s t)
+part-even passed s t = refl
+part-even ended s t = refl
+part-even (failed e) s t = refl
 
-module _ (b : List ℕ) (q : Search) where
-  then-even : (a : Answer Leaf) (s t : ℕ) (k l : Run) → bare k ≡ bare l → bare (leafThen a s k) ≡ bare (leafThen a t l)
-  unfolding leafThen bare
-  then-even (got passOver) s t k l h = h
-  then-even (got endScan) s t k l h = refl
-  then-even (got (recordAt p)) s t k l h = ap (more p 0) h
-  then-even (no e) s t k l h = refl
-
-  leaf-even : (m : Node) (n i s t : ℕ) (k l : Run) → bare k ≡ bare l → bare (leafFrom b q m n i s k) ≡ bare (leafFrom b q m n i t l)
-  unfolding leafFrom
-  leaf-even m zero i s t k l h = h
-  leaf-even m (suc n) i s t k l h = then-even (itemAt b q m i) s t _ _ (leaf-even m n (i + 1) s t k l h)
-
-  module _ (f : Node → Tail → Tail) (f-even : (m : Node) (k : Tail) → Even k → Even (f m k)) where
-    acting-even : (a : Answer Act) (k : Tail) → Even k → Even (acting f a k)
-    unfolding bare
-    acting-even (got entries.stop) k h s t = refl
-    acting-even (got entries.skip) k h s t = h s t
-    acting-even (got (entries.into m)) k h s t = f-even m k h s t
-    acting-even (no e) k h s t = refl
-
-    act-even : (c d : Counted Act) (k : Tail) → c .answer ≡ d .answer → Even k → bare (act f c k) ≡ bare (act f d k)
-    unfolding act
-    act-even c d k p h = rw p (acting-even (d .answer) k h (c .nodes) (d .nodes))
-
-    each-even : (m : Node) (n i : ℕ) (k : Tail) → Even k → Even (each f b q m n i k)
-    unfolding each
-    each-even m zero i k h s t = h s t
-    each-even m (suc n) i k h s t = act-even (turnAt b q m i s) (turnAt b q m i t) _ (turn-even b q m i s t) (each-even m n (i + 1) k h)
-
-    tree-even : (m : Node) (i : ℕ) (k : Tail) → Even k → Even (node f b q m i k)
-    unfolding node
-    tree-even m i k h =
-        eq-cases Even (λ e s t. leaf-even m (m .nkeys - i) i s t (k s) (k t) (h s t)) (λ e. each-even m (m .nkeys - i) i k h)
-
-  level-even : (n : ℕ) (m : Node) (k : Tail) → Even k → Even (child b q n m k)
-  unfolding child bare
-  level-even zero m k h s t = refl
-  level-even (suc n) m k h s t = eq-even bare _ _ _ _ (m .level) n (tree-even (child b q n) (level-even n) m 0 k h s t) refl
-
-  pub scan-even : (s t : ℕ) → bare (scanOf b q s) ≡ bare (scanOf b q t)
-  unfolding scanOf bare
-  scan-even s t = le-even bare _ _ _ _ (q .root .level) 32 (tree-even (child b q (q .root .level)) (level-even (q .root .level)) (q .root) 0 end (λ x y. refl) _ _) refl
+pub scan-even : (b : List ℕ) (q : Search) (s t : ℕ) → bare (scanOf b q s) ≡ bare (scanOf b q t)
+unfolding scanOf
+scan-even b q s t = part-even (treePart b q) s t
 
 -- ---- what is read of a run
 

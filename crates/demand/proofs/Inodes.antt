@@ -3,6 +3,7 @@ use Prim.Native.Nat.{ℕ, zero, suc, _+_, _^_, _≤_, _<_}
 use mathlib.Core.Path.{_≡_, refl, sym, ap, subst, _∙_}
 use mathlib.Core.Logic.{_⊎_, inl, inr}
 use mathlib.Core.List.{List, []}
+use mathlib.Core.Option.{Option, none, some}
 use native.Mathlib.Omega.{arith}
 use mir.Syntax.{w8, w64}
 use mir.Val.{Fits}
@@ -20,7 +21,7 @@ use Rattle.obj.specs.Block.{blockOf}
 use Rattle.obj.specs.declared.reader.Reader.{Reader}
 use Rattle.lookup.specs.Counted.{Counted, after, onto}
 use Rattle.btree.specs.Entries.{valueOf}
-use Rattle.btree.specs.Scan.{Met, at, none, nth, scanOf}
+use Rattle.btree.specs.Scan.{nth, scanOf}
 use Rattle.btree.specs.declared.entries.Place.{Place}
 use Rattle.volume.specs.declared.Volume.{Volume}
 use Rattle.inode_record.specs.Fields.{streamField, fieldIn, laterStream, mergedOf, fieldAt, nextOff, fieldsFrom, fieldsIn}
@@ -61,8 +62,8 @@ pub inode-placed : (b : List ℕ) (v : Volume) (id s : ℕ) (x : Inode) → inod
 unfolding inodeOf inodeAt
 inode-placed b v id s x h = of (nth 0 (scanOf b (searchOf v id 3) s) .nodes) (nth 0 (scanOf b (searchOf v id 3) s) .answer) h
   where
-    of : (n : ℕ) (a : Answer Met) → (onto (after n a) λ m t. after t (inodeMet b v id m)) .answer ≡ got x → Placed b v id x
-    of n (got (at p)) e = record { place = p; parts = parsed p id _ x e }
+    of : (n : ℕ) (a : Answer (Option Place)) → (onto (after n a) λ m t. after t (inodeMet b v id m)) .answer ≡ got x → Placed b v id x
+    of n (got (some p)) e = record { place = p; parts = parsed p id _ x e }
     of n (got none) e = absurd (let z : _≡_ {A = ℕ} 0 1 = cc in omega arith)
     of n (no w) e = absurd (let z : _≡_ {A = ℕ} 0 1 = cc in omega arith)
 

@@ -8,7 +8,7 @@ use Rattle.error.specs.Answer.{Answer, got, no, _>>=_}
 use Rattle.error.specs.declared.Refusal.the-variants.{NotFound}
 use Rattle.lookup.specs.Counted.{Counted, after, from, onto}
 use Rattle.lookup.specs.declared.map.Resolve.the-variants.{Mapped}
-use Rattle.btree.specs.Scan.{Run, more, end, refused, scanOf, Met, at, none, nth}
+use Rattle.btree.specs.Scan.{Run, more, end, refused, scanOf, nth}
 use Rattle.btree.specs.declared.entries.Search.{Search}
 use Rattle.btree.specs.declared.entries.Place.{Place}
 use Rattle.volume.specs.declared.Volume.{Volume}
@@ -41,9 +41,9 @@ attributesOf b v id s = listOf (attributeAt (v .reader) b) (scanOf b (searchOf v
 unfoldable pub extentsOf : List ℕ → Volume → ℕ → ℕ → Counted (List Extent)
 extentsOf b v id s = listOf (extentAt (v .reader) b) (scanOf b (searchOf v id 8) s)
 
-abbrev pub inodeMet : List ℕ → Volume → ℕ → Met → Answer Inode
-inodeMet b v id (at p) = inodeAt (v .reader) b p id
-inodeMet b v id none = no NotFound
+abbrev pub inodeMet : List ℕ → Volume → ℕ → Option Place → Answer Inode
+inodeMet b v id (some p) = inodeAt (v .reader) b p id
+inodeMet b v id option.none = no NotFound
 
 -- the first inode record of the id, 4 where there is none
 unfoldable pub inodeOf : List ℕ → Volume → ℕ → ℕ → Counted Inode

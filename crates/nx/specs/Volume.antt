@@ -1,6 +1,7 @@
 -- A volume's superblock. Apple File System Reference, "Volumes", apfs_superblock_t; document 01, nx.rs.
 use Prim.Native.Nat.{ℕ}
 use mathlib.Core.List.{List}
+use mathlib.Core.Option.{Option, none, some}
 use Rattle.error.specs.Answer.{Answer, got, no, _>>=_, ifEq}
 use Rattle.error.specs.declared.Refusal.the-variants.{Corrupt}
 use Rattle.bytes.specs.Number.{numberAt}
@@ -9,7 +10,8 @@ use Rattle.obj.specs.Block.{objectAt}
 use Rattle.obj.specs.Header.{headerAt, kindOf}
 use Rattle.obj.specs.declared.reader.Reader.{Reader}
 use Rattle.lookup.specs.Counted.{Counted, after, from, onto}
-use Rattle.lookup.specs.Map.{Mapped?, absent, mapped, mapLookup}
+use Rattle.lookup.specs.Map.{mapLookup}
+use Rattle.lookup.specs.declared.map.MapValue.{MapValue}
 use Rattle.nx.specs.Slots.{volumesOf, volumeAt}
 use Rattle.nx.specs.declared.container.Container.{Container}
 use Rattle.nx.specs.declared.volume.VolumeSuperblock.{VolumeSuperblock}
@@ -45,9 +47,9 @@ unfoldable pub volumeBlock : Reader → List ℕ → ℕ → Answer VolumeSuperb
 volumeBlock r image p = objectAt r image p >>= λ s. volumeIn (partOf image s) p
 
 -- omap.rs: "absent, which callers turn into 2"
-abbrev pub volumeOf : Reader → List ℕ → Mapped? → Answer VolumeSuperblock
-volumeOf r image absent = no Corrupt
-volumeOf r image (mapped v) = volumeBlock r image (v .paddr)
+abbrev pub volumeOf : Reader → List ℕ → Option MapValue → Answer VolumeSuperblock
+volumeOf r image none = no Corrupt
+volumeOf r image (some v) = volumeBlock r image (v .paddr)
 
 -- the superblock of a volume's object id, s nodes having been gone through before
 unfoldable pub mappedVolume : List ℕ → Container → ℕ → ℕ → Counted VolumeSuperblock

@@ -113,7 +113,10 @@ pub fn load(reader: Reader, image: &[u8], paddr: u64, xid: u64, nodes: u64) -> L
 {
     match tree_at(reader, image, paddr) {
         Number::Got(tree) => match read_node(reader, image, tree) {
-            Parsed::Got(root) => with_root(reader, image, root, xid, tick(nodes)),
+            Parsed::Got(root) => {
+                let counted = tick(nodes);
+                with_root(reader, image, root, xid, counted)
+            }
             Parsed::No(e) => Loaded {
                 map: Loading::No(e),
                 nodes: nodes,

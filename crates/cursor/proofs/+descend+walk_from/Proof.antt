@@ -1,8 +1,8 @@
 use Prim.Native.Nat.{ℕ, _+_, _-_, _*_, _<_}
 use mathlib.Core.Path.{_≡_}
 use borrow.Author.Needs.{needs}
-use Rattle.btree.specs.Scan.{walk}
-use Rattle.cursor.specs.Left.{over, onward}
+use Rattle.btree.specs.Inner.{walk}
+use Rattle.cursor.specs.Inner.{over, onward}
 use Rattle.btree.proofs.Turns.{turns, each-done}
 use Rattle.cursor.proofs.Left.{made, final, made-passed, gone-in, left-index, into-passed, into-kept}
 use borrow.Fn.Kinds.{In}

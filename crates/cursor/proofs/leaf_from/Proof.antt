@@ -1,7 +1,7 @@
 use Prim.Native.Nat.{_-_}
 use mathlib.Core.Path.{_≡_}
-use Rattle.btree.specs.Scan.{leafFrom}
-use Rattle.cursor.specs.Left.{over}
+use Rattle.btree.specs.Inner.{leafFrom}
+use Rattle.cursor.specs.Inner.{over}
 use Rattle.btree.proofs.Turns.{turns}
 use Rattle.cursor.proofs.Left.{made}
 use Rattle.cursor.proofs.leaf_from.Statement.{statement}

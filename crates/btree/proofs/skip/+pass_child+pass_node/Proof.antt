@@ -1,7 +1,8 @@
 use Prim.Native.Nat.{ℕ, _+_, _-_, _*_, _<_}
 use mathlib.Core.Path.{_≡_}
 use borrow.Author.Needs.{needs}
-use Rattle.btree.specs.Scan.{Tail, nth, each, child, walk}
+use Rattle.btree.specs.Scan.{Tail, nth}
+use Rattle.btree.specs.Inner.{each, child, walk}
 use Rattle.btree.proofs.Nth.{indexes, nodes, made-left, turn-done}
 use borrow.Fn.Kinds.{In}
 use borrow.Fn.PlainCycle.{Measures, is, falls, and}

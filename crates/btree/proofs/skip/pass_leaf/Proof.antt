@@ -1,6 +1,7 @@
 use Prim.Native.Nat.{ℕ, _-_}
 use mathlib.Core.Path.{_≡_, refl}
-use Rattle.btree.specs.Scan.{Run, nth, leafFrom}
+use Rattle.btree.specs.Scan.{Run, nth}
+use Rattle.btree.specs.Inner.{leafFrom}
 use Rattle.btree.proofs.Nth.{leaves}
 use Rattle.btree.proofs.skip.pass_leaf.Statement.{statement}
 use Rattle.btree.proofs.skip.pass_leaf.Tie as tie
