@@ -1,5 +1,10 @@
 //! The lines that the port's calls answer.
 
+/// Kinds, the stored 4 bits.
+pub const DIRECTORY: u64 = 4;
+pub const REGULAR: u64 = 8;
+pub const LINK: u64 = 10;
+
 const COMPRESSED: u64 = 0x20;
 
 /// An inode's fields, in the line's order.
@@ -26,13 +31,17 @@ pub struct Entry {
     pub name: String,
 }
 
-/// The text after an `x`.
-fn hex(word: &str) -> Option<String> {
+/// The bytes after an `x`.
+pub fn hex(word: &str) -> Option<Vec<u8>> {
     let digits = word.strip_prefix('x')?.as_bytes();
     let digit = |b: u8| char::from(b).to_digit(16);
     let byte = |pair: &[u8]| Some((digit(pair[0])? << 4 | digit(*pair.get(1)?)?) as u8);
-    let bytes: Option<Vec<u8>> = digits.chunks(2).map(byte).collect();
-    String::from_utf8(bytes?).ok()
+    digits.chunks(2).map(byte).collect()
+}
+
+/// The text after an `x`.
+pub fn text(word: &str) -> Option<String> {
+    String::from_utf8(hex(word)?).ok()
 }
 
 /// `-`, or what `read` makes of the word.
@@ -67,7 +76,7 @@ impl Node {
             owner: n(10)?,
             group: n(11)?,
             mode: n(12)?,
-            name: maybe(words[13], hex)?,
+            name: maybe(words[13], text)?,
             stream: maybe(words[14], pair)?,
         })
     }
@@ -89,7 +98,7 @@ impl Entry {
     pub fn parse(line: &str) -> Option<Entry> {
         let words: Vec<&str> = line.strip_prefix("(entry ")?.strip_suffix('\n')?.split(' ').collect();
         let [id, _date, kind, name] = words[..] else { return None };
-        Some(Entry { id: id.parse().ok()?, kind: kind.parse().ok()?, name: hex(name)? })
+        Some(Entry { id: id.parse().ok()?, kind: kind.parse().ok()?, name: text(name)? })
     }
 }
 
