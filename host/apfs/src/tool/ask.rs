@@ -16,6 +16,8 @@ const NOT_FOUND: u64 = 4;
 const PATH_NOT_UTF8: u64 = 5;
 const TOO_SHORT: u64 = 6;
 const FIRST: usize = 4096;
+/// Each call for entries goes through the whole directory, so it has room for many.
+const ENTRIES: usize = 1 << 20;
 /// No line without contents is longer.
 const LONGEST: usize = 1 << 24;
 /// A listing of any image has so much room at least, and in a larger image's the image's so many times.
@@ -39,7 +41,11 @@ pub fn count(n: i64) -> Result<usize, u64> {
 
 /// A call's answer, in a buffer of `longest` bytes at most, or the refusal's number.
 fn bytes(longest: usize, call: Call) -> Result<Vec<u8>, u64> {
-    let mut length = FIRST.min(longest);
+    bytes_from(FIRST, longest, call)
+}
+
+/// The same, the first buffer being of `length` bytes.
+fn bytes_from(mut length: usize, longest: usize, call: Call) -> Result<Vec<u8>, u64> {
     loop {
         let mut out = zeros(length).ok_or(TOO_SHORT)?;
         match count(call(&mut out)) {
@@ -122,14 +128,11 @@ impl Asked {
         self.line(&what, &line, Node::parse)
     }
 
-    /// The directory's entry at `place`, or none past the last.
-    pub fn entry(&self, id: u64, place: u64) -> Result<Option<Entry>, Failure> {
-        let what = format!("entry {place} of inode {id}");
-        let line = bytes(LONGEST, &|out| calls::entry(&self.image, self.volume, id, place, out));
-        match line.map_err(|n| self.refused(&what, n))? {
-            line if line.is_empty() => Ok(None),
-            line => self.line(&what, &line, Entry::parse).map(Some),
-        }
+    /// The directory's entries from `place` on, as many as a buffer holds; none past the last.
+    pub fn entries(&self, what: &str, id: u64, place: u64) -> Result<Vec<Entry>, Failure> {
+        let call = |out: &mut [u8]| calls::entries(&self.image, self.volume, id, place, out);
+        let text = bytes_from(ENTRIES, LONGEST, &call).map_err(|n| self.refused(what, n))?;
+        text.split_inclusive(|&b| b == b'\n').map(|line| self.line(what, line, Entry::parse)).collect()
     }
 
     /// The attribute at `place`, or none past the last; or the refusal's number.
@@ -142,6 +145,11 @@ impl Asked {
                 self.line(&what, &line, Attribute::parse).map(|a| Ok(Some(a)))
             }
         }
+    }
+
+    /// The bytes of the attribute at `place`, or the refusal's number.
+    pub fn attribute_bytes(&self, id: u64, place: u64) -> Result<Vec<u8>, u64> {
+        bytes(LISTING, &|out| calls::xattr_bytes(&self.image, self.volume, id, place, out))
     }
 
     /// How many bytes of the file came into `out`.

@@ -2,7 +2,7 @@
 
 use std::io::Write;
 
-use crate::tool::ask::Asked;
+use crate::tool::ask::{shown_path, Asked};
 use crate::tool::failure::Failure;
 use crate::tool::node::{Entry, Node, DIRECTORY, LINK, REGULAR};
 use crate::tool::shown::{kind, shown};
@@ -15,12 +15,17 @@ pub fn run(asked: &Asked, path: &[u8], out: &mut dyn Write) -> Result<(), Failur
         let name = String::from_utf8_lossy(path).into_owned();
         return line(asked, &Entry { id: node.id, kind: node.kind(), name }, &size(&node), out);
     }
-    let mut place = 0;
-    while let Some(e) = asked.entry(node.id, place)? {
-        line(asked, &e, &sized(asked, &e), out)?;
-        place += 1;
+    let (what, mut place) = (shown_path(path), 0);
+    loop {
+        let entries = asked.entries(&what, node.id, place)?;
+        if entries.is_empty() {
+            return Ok(());
+        }
+        for e in &entries {
+            line(asked, e, &sized(asked, e), out)?;
+        }
+        place += entries.len() as u64;
     }
-    Ok(())
 }
 
 /// Kind, size and name, and where a link leads.

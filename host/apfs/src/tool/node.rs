@@ -31,17 +31,13 @@ pub struct Entry {
     pub name: String,
 }
 
-/// The bytes after an `x`.
-pub fn hex(word: &str) -> Option<Vec<u8>> {
+/// The text after an `x`.
+pub fn text(word: &str) -> Option<String> {
     let digits = word.strip_prefix('x')?.as_bytes();
     let digit = |b: u8| char::from(b).to_digit(16);
     let byte = |pair: &[u8]| Some((digit(pair[0])? << 4 | digit(*pair.get(1)?)?) as u8);
-    digits.chunks(2).map(byte).collect()
-}
-
-/// The text after an `x`.
-pub fn text(word: &str) -> Option<String> {
-    String::from_utf8(hex(word)?).ok()
+    let bytes: Option<Vec<u8>> = digits.chunks(2).map(byte).collect();
+    String::from_utf8(bytes?).ok()
 }
 
 /// `-`, or what `read` makes of the word.

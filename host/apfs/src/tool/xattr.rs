@@ -30,7 +30,7 @@ pub fn run(asked: &Asked, path: &[u8], out: &mut dyn Write) -> Result<(), Failur
         match a {
             Ok(a) => {
                 let form = if a.is_stream { "stream" } else { "embedded" };
-                writeln!(out, "{:#06x} {form:8} {:>12} {}", a.flags, a.data.len(), shown(&a.name))?;
+                writeln!(out, "{:#06x} {form:8} {:>12} {}", a.flags, a.size, shown(&a.name))?;
             }
             Err(n) if refused.is_ok() => refused = Err(asked.refused(&format!("attribute {place} of {what}"), n)),
             Err(_) => {}
@@ -43,11 +43,14 @@ pub fn run(asked: &Asked, path: &[u8], out: &mut dyn Write) -> Result<(), Failur
 pub fn bytes(asked: &Asked, path: &[u8], name: &[u8], out: &mut dyn Write) -> Result<(), Failure> {
     let (node, what) = (asked.lookup(path)?, shown_path(path));
     let mut refused = None;
-    for (place, a) in all(asked, &what, node.id)?.into_iter().enumerate() {
+    for (place, a) in (0..).zip(all(asked, &what, node.id)?) {
+        let told = |n: u64| asked.refused(&format!("attribute {place} of {what}"), n);
         match a {
-            Ok(a) if a.name.as_bytes() == name => return Ok(out.write_all(&a.data)?),
+            Ok(a) if a.name.as_bytes() == name => {
+                return Ok(out.write_all(&asked.attribute_bytes(node.id, place).map_err(told)?)?);
+            }
             Ok(_) => {}
-            Err(n) => refused = refused.or(Some(asked.refused(&format!("attribute {place} of {what}"), n))),
+            Err(n) => refused = refused.or(Some(told(n))),
         }
     }
     let name = shown(&String::from_utf8_lossy(name));

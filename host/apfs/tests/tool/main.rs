@@ -38,6 +38,17 @@ fn directories_are_listed() {
 }
 
 #[test]
+fn a_directory_past_one_buffer_is_listed_whole() {
+    const ENTRIES: u64 = 40_000;
+    let image = Image::holding("wide", large::spread(ENTRIES, 0));
+    let text = out(image.run(&["ls"], &[]));
+    let mut names: Vec<&str> = text.lines().filter_map(|l| l.strip_prefix("file                0 ")).collect();
+    names.sort();
+    assert!(names.iter().zip(0..ENTRIES).all(|(name, i)| *name == format!("entry-{i:06}")));
+    assert_eq!(names.len() as u64, ENTRIES);
+}
+
+#[test]
 fn sizes_are_the_files_own() {
     let image = Image::holding("size", file().0);
     assert_eq!(out(image.run(&["ls"], &["/"])), "file           300000 data\n");
