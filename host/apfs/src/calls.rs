@@ -29,7 +29,25 @@ extern "C" {
         out: *mut u8,
         out_len: usize,
     ) -> i64;
+    fn apfs_entries(
+        image: *const u8,
+        image_len: usize,
+        volume: u64,
+        id: u64,
+        place: u64,
+        out: *mut u8,
+        out_len: usize,
+    ) -> i64;
     fn apfs_xattr(
+        image: *const u8,
+        image_len: usize,
+        volume: u64,
+        id: u64,
+        place: u64,
+        out: *mut u8,
+        out_len: usize,
+    ) -> i64;
+    fn apfs_xattr_bytes(
         image: *const u8,
         image_len: usize,
         volume: u64,
@@ -69,9 +87,19 @@ pub fn entry(image: &[u8], volume: u64, id: u64, place: u64, out: &mut [u8]) -> 
     unsafe { apfs_entry(image.as_ptr(), image.len(), volume, id, place, out.as_mut_ptr(), out.len()) }
 }
 
+/// The lines of the directory entries from `place` on, as many as fit; nothing past the last.
+pub fn entries(image: &[u8], volume: u64, id: u64, place: u64, out: &mut [u8]) -> i64 {
+    unsafe { apfs_entries(image.as_ptr(), image.len(), volume, id, place, out.as_mut_ptr(), out.len()) }
+}
+
 /// The line of the attribute at `place`, with its contents; nothing past the last.
 pub fn xattr(image: &[u8], volume: u64, id: u64, place: u64, out: &mut [u8]) -> i64 {
     unsafe { apfs_xattr(image.as_ptr(), image.len(), volume, id, place, out.as_mut_ptr(), out.len()) }
+}
+
+/// The bytes of the attribute at `place`; nothing past the last.
+pub fn xattr_bytes(image: &[u8], volume: u64, id: u64, place: u64, out: &mut [u8]) -> i64 {
+    unsafe { apfs_xattr_bytes(image.as_ptr(), image.len(), volume, id, place, out.as_mut_ptr(), out.len()) }
 }
 
 /// A symbolic link's text.

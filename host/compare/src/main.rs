@@ -40,7 +40,7 @@ use compare::record;
 
 const DEFAULT_SEED: u64 = 20_261;
 const DEFAULT_STICKS: u64 = 4000;
-/// Each stick has some 260 calls made on it, most of them twice.
+/// Each stick has some 360 calls made on it, most of them twice.
 const DEFAULT_FOR_CALLS: u64 = 3000;
 /// Each listing is a walk of the port through a whole volume, for each of two to ten buffers.
 const DEFAULT_FOR_LISTS: u64 = 1600;

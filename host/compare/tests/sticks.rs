@@ -44,6 +44,13 @@ fn sticks_of_given_contents_hold_them() {
 }
 
 #[test]
+fn the_sample_holds_what_was_planned() {
+    let mut reach = Reach::default();
+    walk(&sticks::make(Plan::sample()), &mut reach).expect("the sample");
+    assert_eq!((reach.volumes, reach.refused, reach.files), (1, 0, 7), "{reach:?}");
+}
+
+#[test]
 fn odd_sticks_are_refused() {
     for seed in 0..STICKS {
         let plan = Plan::draw(seed);

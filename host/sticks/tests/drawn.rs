@@ -19,6 +19,27 @@ fn the_seed_decides_all() {
 }
 
 #[test]
+fn the_sample_is_small_and_has_one_of_each() {
+    let stick = make(Plan::sample());
+    let contents = &stick.plan.volumes[0].contents;
+    assert!(stick.image == make(Plan::sample()).image && stick.image.len() < 1 << 17, "{}", stick.image.len());
+    assert!(stick.plan.opens() && stick.plan.volumes[0].is_regular());
+    all_seen(
+        std::slice::from_ref(contents),
+        &[
+            ("a hole", |c| extents(c).any(|e| matches!(e.source, Source::Hole))),
+            ("two directories", |c| c.files.iter().filter(|f| f.inode.mode >> 12 == 4).count() == 3),
+            ("a link", |c| links(c).count() == 1),
+            ("an attribute of its own bytes", |c| links(c).any(|(_, d)| matches!(d, Data::Embedded(_)))),
+            ("a stream", |c| {
+                c.files.iter().any(|f| f.attributes.iter().any(|a| matches!(a.data, Data::Stream { .. })))
+            }),
+            ("an accented name", |c| names(c).any(|n| !n.is_ascii())),
+        ],
+    );
+}
+
+#[test]
 fn damage_changes_most_images() {
     let image = Stick::from_seed(1).image;
     let changed = (0..200).filter(|&seed| damage(&image, seed) != image).count();

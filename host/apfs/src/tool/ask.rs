@@ -1,36 +1,60 @@
 //! The port's calls, with buffers that grow until the answer fits.
 
+use std::ffi::OsStr;
+
 use apfs::calls;
 
+use crate::tool::attribute::Attribute;
+use crate::tool::container::{Container, Volume};
 use crate::tool::failure::Failure;
+use crate::tool::image;
 use crate::tool::node::{Entry, Node};
 use crate::tool::shown::shown;
+use crate::tool::size;
 
-const TOO_SHORT: i64 = -6;
+const NOT_FOUND: u64 = 4;
+const PATH_NOT_UTF8: u64 = 5;
+const TOO_SHORT: u64 = 6;
 const FIRST: usize = 4096;
-/// No line is longer.
+/// Each call for entries goes through the whole directory, so it has room for many.
+const ENTRIES: usize = 1 << 20;
+/// No line without contents is longer.
 const LONGEST: usize = 1 << 24;
 /// A listing of any image has so much room at least, and in a larger image's the image's so many times.
 const LISTING: usize = 1 << 30;
 const TIMES: usize = 8;
 
 pub struct Asked {
+    /// The image file's name, for messages.
+    pub file: String,
     pub image: Vec<u8>,
     pub volume: u64,
+    pub container: Container,
 }
 
-/// A call's answer, in a buffer of `longest` bytes at most.
-fn bytes(what: &str, longest: usize, call: &dyn Fn(&mut [u8]) -> i64) -> Result<Vec<u8>, Failure> {
-    let mut length = FIRST;
+type Call<'c> = &'c dyn Fn(&mut [u8]) -> i64;
+
+/// The bytes written, or the refusal's number.
+pub fn count(n: i64) -> Result<usize, u64> {
+    usize::try_from(n).map_err(|_| n.unsigned_abs())
+}
+
+/// A call's answer, in a buffer of `longest` bytes at most, or the refusal's number.
+fn bytes(longest: usize, call: Call) -> Result<Vec<u8>, u64> {
+    bytes_from(FIRST, longest, call)
+}
+
+/// The same, the first buffer being of `length` bytes.
+fn bytes_from(mut length: usize, longest: usize, call: Call) -> Result<Vec<u8>, u64> {
     loop {
-        let mut out = zeros(length).ok_or_else(|| Failure::Refused(what.to_string(), TOO_SHORT.unsigned_abs()))?;
-        let n = call(&mut out);
-        if n == TOO_SHORT && length < longest {
-            length = longest.min(length.saturating_mul(4));
-            continue;
+        let mut out = zeros(length).ok_or(TOO_SHORT)?;
+        match count(call(&mut out)) {
+            Err(TOO_SHORT) if length < longest => length = longest.min(length.saturating_mul(4)),
+            n => {
+                out.truncate(n?);
+                return Ok(out);
+            }
         }
-        out.truncate(count(what, n)?);
-        return Ok(out);
     }
 }
 
@@ -42,44 +66,133 @@ fn zeros(n: usize) -> Option<Vec<u8>> {
     Some(out)
 }
 
-fn text(what: &str, call: &dyn Fn(&mut [u8]) -> i64) -> Result<String, Failure> {
-    String::from_utf8(bytes(what, LONGEST, call)?).map_err(|_| no_answer(what))
-}
-
-fn count(what: &str, n: i64) -> Result<usize, Failure> {
-    usize::try_from(n).map_err(|_| Failure::Refused(what.to_string(), n.unsigned_abs()))
-}
-
-fn no_answer(what: &str) -> Failure {
-    Failure::Other(format!("{what}: an answer of no known form"))
+fn parsed<T>(what: &str, line: &[u8], parse: fn(&str) -> Option<T>) -> Result<T, Failure> {
+    let read = std::str::from_utf8(line).ok().and_then(parse);
+    read.ok_or_else(|| Failure::Other(format!("{what}: an answer of no known form")))
 }
 
 impl Asked {
-    pub fn lookup(&self, path: &[u8]) -> Result<Node, Failure> {
-        let what = shown(&String::from_utf8_lossy(path));
-        let line = text(&what, &|out| calls::lookup(&self.image, self.volume, path, out))?;
-        Node::parse(&line).ok_or_else(|| no_answer(&what))
+    /// Opens the container; the volume is opened when something of it is asked for.
+    pub fn of(file: &OsStr, volume: u64) -> Result<Asked, Failure> {
+        let (name, image) = (image::name(file), image::read(file)?);
+        let line = bytes(LONGEST, &|out| apfs::open(&image, out)).map_err(|n| match n {
+            NOT_FOUND => Failure::told(
+                &name,
+                n,
+                "no APFS container begins here",
+                "give the image of an APFS partition, from its first byte on",
+            ),
+            n => Failure::refused(&name, n),
+        })?;
+        let container = parsed(&name, &line, Container::parse)?;
+        Ok(Asked { file: name, image, volume, container })
     }
 
-    /// The directory's entry at `place`, or none past the last.
-    pub fn entry(&self, id: u64, place: u64) -> Result<Option<Entry>, Failure> {
-        let what = format!("entry {place} of inode {id}");
-        let line = text(&what, &|out| calls::entry(&self.image, self.volume, id, place, out))?;
-        if line.is_empty() {
-            return Ok(None);
+    pub fn refused(&self, what: &str, number: u64) -> Failure {
+        Failure::refused(format!("{}: {what}", self.file), number)
+    }
+
+    fn line<T>(&self, what: &str, line: &[u8], parse: fn(&str) -> Option<T>) -> Result<T, Failure> {
+        parsed(&format!("{}: {what}", self.file), line, parse)
+    }
+
+    /// Whether a volume opens: a path that is not UTF-8 is refused after that, and before anything in the volume is read.
+    pub fn opens(&self, volume: u64) -> Result<(), u64> {
+        match count(calls::lookup(&self.image, volume, b"\xff", &mut [])) {
+            Err(n) if n != PATH_NOT_UTF8 => Err(n),
+            _ => Ok(()),
         }
-        Entry::parse(&line).map(Some).ok_or_else(|| no_answer(&what))
+    }
+
+    pub fn open_volume(&self) -> Result<(), Failure> {
+        let what = format!("{}: volume {}", self.file, self.volume);
+        if self.volume >= self.container.volumes.len() as u64 {
+            return Err(Failure::told(what, NOT_FOUND, "there is no such volume", self.container.which()));
+        }
+        self.opens(self.volume).map_err(|n| Failure::refused(what, n))
+    }
+
+    pub fn lookup(&self, path: &[u8]) -> Result<Node, Failure> {
+        self.open_volume()?;
+        let what = shown_path(path);
+        let line = bytes(LONGEST, &|out| calls::lookup(&self.image, self.volume, path, out));
+        let line = line.map_err(|n| match n {
+            NOT_FOUND => Failure::told(
+                format!("{}: {what}", self.file),
+                n,
+                "there is no such file or directory",
+                apfs::refusal::advice(n),
+            ),
+            n => self.refused(&what, n),
+        })?;
+        self.line(&what, &line, Node::parse)
+    }
+
+    /// The directory's entries from `place` on, as many as a buffer holds; none past the last.
+    pub fn entries(&self, what: &str, id: u64, place: u64) -> Result<Vec<Entry>, Failure> {
+        let call = |out: &mut [u8]| calls::entries(&self.image, self.volume, id, place, out);
+        let text = bytes_from(ENTRIES, LONGEST, &call).map_err(|n| self.refused(what, n))?;
+        text.split_inclusive(|&b| b == b'\n').map(|line| self.line(what, line, Entry::parse)).collect()
+    }
+
+    /// The attribute at `place`, or none past the last; or the refusal's number.
+    pub fn attribute(&self, id: u64, place: u64) -> Result<Result<Option<Attribute>, u64>, Failure> {
+        match bytes(LISTING, &|out| calls::xattr(&self.image, self.volume, id, place, out)) {
+            Err(n) => Ok(Err(n)),
+            Ok(line) if line.is_empty() => Ok(Ok(None)),
+            Ok(line) => {
+                let what = format!("attribute {place} of inode {id}");
+                self.line(&what, &line, Attribute::parse).map(|a| Ok(Some(a)))
+            }
+        }
+    }
+
+    /// The bytes of the attribute at `place`, or the refusal's number.
+    pub fn attribute_bytes(&self, id: u64, place: u64) -> Result<Vec<u8>, u64> {
+        bytes(LISTING, &|out| calls::xattr_bytes(&self.image, self.volume, id, place, out))
     }
 
     /// How many bytes of the file came into `out`.
-    pub fn read(&self, id: u64, offset: u64, out: &mut [u8]) -> Result<usize, Failure> {
-        count(&format!("inode {id} at byte {offset}"), calls::read(&self.image, self.volume, id, offset, out))
+    pub fn read(&self, id: u64, offset: u64, out: &mut [u8]) -> Result<usize, u64> {
+        count(calls::read(&self.image, self.volume, id, offset, out))
+    }
+
+    /// A file's size, or the refusal of a read.
+    pub fn size(&self, id: u64) -> Result<u64, u64> {
+        size::told(&|offset, out| self.read(id, offset, out))
+    }
+
+    /// A symbolic link's text, or the refusal's number.
+    pub fn link(&self, id: u64) -> Result<String, u64> {
+        let text = bytes(LONGEST, &|out| calls::link(&self.image, self.volume, id, out))?;
+        Ok(String::from_utf8_lossy(&text).into_owned())
+    }
+
+    /// A volume's label and rule, or the refusal's number. No call but the listing tells them; one of over
+    /// [`LONGEST`] bytes is not waited for.
+    pub fn volume(&self, volume: u64) -> Result<Result<Volume, u64>, Failure> {
+        match bytes(LONGEST, &|out| calls::list(&self.image, volume, out)) {
+            Err(n) => Ok(Err(n)),
+            Ok(text) => {
+                let first = text.split_inclusive(|&b| b == b'\n').next().unwrap_or_default();
+                self.line(&format!("volume {volume}"), first, Volume::parse).map(Ok)
+            }
+        }
     }
 
     /// The volume's listing.
     pub fn list(&self) -> Result<Vec<u8>, Failure> {
+        self.open_volume()?;
         let longest = self.image.len().saturating_mul(TIMES).max(LISTING);
-        let what = format!("listing of volume {}", self.volume);
-        bytes(&what, longest, &|out| calls::list(&self.image, self.volume, out))
+        let text = bytes(longest, &|out| calls::list(&self.image, self.volume, out));
+        text.map_err(|n| self.refused(&format!("listing of volume {}", self.volume), n))
+    }
+}
+
+/// A path for messages.
+pub fn shown_path(path: &[u8]) -> String {
+    match path {
+        b"" => "/".into(),
+        path => shown(&String::from_utf8_lossy(path)),
     }
 }

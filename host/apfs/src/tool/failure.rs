@@ -3,14 +3,23 @@
 use std::fmt;
 use std::io;
 
-use apfs::refusal::words;
+use apfs::refusal;
+
+/// A refusal, as it is told.
+pub struct Refused {
+    /// The file, and what was asked of it.
+    what: String,
+    number: u64,
+    words: String,
+    advice: String,
+}
 
 pub enum Failure {
-    Usage,
-    /// A file and what became of reading it.
+    /// How to call it.
+    Usage(String),
+    /// A file and what became of it.
     File(String, io::Error),
-    /// What was asked, and the refusal's number.
-    Refused(String, u64),
+    Refused(Refused),
     Other(String),
     Output(io::Error),
 }
@@ -21,12 +30,23 @@ impl From<io::Error> for Failure {
     }
 }
 
+impl Failure {
+    pub fn refused(what: impl Into<String>, number: u64) -> Failure {
+        Failure::told(what, number, refusal::words(number), refusal::advice(number))
+    }
+
+    /// In other words than those of every refusal of that number.
+    pub fn told(what: impl Into<String>, number: u64, words: impl Into<String>, advice: impl Into<String>) -> Failure {
+        Failure::Refused(Refused { what: what.into(), number, words: words.into(), advice: advice.into() })
+    }
+}
+
 impl fmt::Display for Failure {
     fn fmt(&self, f: &mut fmt::Formatter) -> fmt::Result {
         match self {
-            Failure::Usage => write!(f, "wrong arguments"),
+            Failure::Usage(words) => write!(f, "{words}"),
             Failure::File(name, e) => write!(f, "{name}: {e}"),
-            Failure::Refused(what, n) => write!(f, "{what}: {} (refusal {n})", words(*n)),
+            Failure::Refused(r) => write!(f, "{}: {} (refusal {}); {}", r.what, r.words, r.number, r.advice),
             Failure::Other(what) => write!(f, "{what}"),
             Failure::Output(e) => write!(f, "writing: {e}"),
         }

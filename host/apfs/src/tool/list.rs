@@ -5,6 +5,6 @@ use std::io::Write;
 use crate::tool::ask::Asked;
 use crate::tool::failure::Failure;
 
-pub fn run(asked: &Asked, _path: &[u8], out: &mut dyn Write) -> Result<(), Failure> {
+pub fn run(asked: &Asked, out: &mut dyn Write) -> Result<(), Failure> {
     Ok(out.write_all(&asked.list()?)?)
 }

@@ -2,46 +2,55 @@
 
 use std::io::Write;
 
-use crate::tool::ask::Asked;
+use crate::tool::ask::{shown_path, Asked};
 use crate::tool::failure::Failure;
-use crate::tool::node::{Entry, Node};
+use crate::tool::node::{Entry, Node, DIRECTORY, LINK, REGULAR};
 use crate::tool::shown::{kind, shown};
 
-const DIRECTORY: u64 = 4;
-const REGULAR: u64 = 8;
+const UNSUPPORTED: u64 = 3;
 
 pub fn run(asked: &Asked, path: &[u8], out: &mut dyn Write) -> Result<(), Failure> {
     let node = asked.lookup(path)?;
     if node.kind() != DIRECTORY {
-        return line(out, node.kind(), &size(&node), &String::from_utf8_lossy(path));
+        let name = String::from_utf8_lossy(path).into_owned();
+        return line(asked, &Entry { id: node.id, kind: node.kind(), name }, &size(&node), out);
     }
-    let mut place = 0;
-    while let Some(e) = asked.entry(node.id, place)? {
-        line(out, e.kind, &sized(asked, path, &e), &e.name)?;
-        place += 1;
+    let (what, mut place) = (shown_path(path), 0);
+    loop {
+        let entries = asked.entries(&what, node.id, place)?;
+        if entries.is_empty() {
+            return Ok(());
+        }
+        for e in &entries {
+            line(asked, e, &sized(asked, e), out)?;
+        }
+        place += entries.len() as u64;
     }
-    Ok(())
 }
 
-fn line(out: &mut dyn Write, number: u64, size: &str, name: &str) -> Result<(), Failure> {
-    Ok(writeln!(out, "{:8} {size:>12} {}", kind(number), shown(name))?)
+/// Kind, size and name, and where a link leads.
+fn line(asked: &Asked, e: &Entry, size: &str, out: &mut dyn Write) -> Result<(), Failure> {
+    let target = if e.kind == LINK { asked.link(e.id).ok() } else { None };
+    let target = target.map_or(String::new(), |to| format!(" -> {}", shown(&to)));
+    Ok(writeln!(out, "{:8} {size:>12} {}{target}", kind(e.kind), shown(&e.name))?)
 }
 
 fn size(node: &Node) -> String {
-    if node.is_compressed() {
-        "packed".into()
-    } else {
-        node.size().to_string()
+    match node.kind() {
+        REGULAR if node.is_compressed() => "packed".into(),
+        REGULAR => node.size().to_string(),
+        _ => "-".into(),
     }
 }
 
-/// A file's size. The calls find inodes by path, so an entry that its path does not lead to, as of
-/// two with one name, has none.
-fn sized(asked: &Asked, path: &[u8], e: &Entry) -> String {
-    let found = |e: &Entry| {
-        let node = asked.lookup(&[path, b"/", e.name.as_bytes()].concat()).ok()?;
-        (node.id == e.id).then(|| size(&node))
-    };
-    let node = if e.kind == REGULAR { found(e) } else { None };
-    node.unwrap_or_else(|| "-".into())
+/// A file's size; `?` where its data cannot be read.
+fn sized(asked: &Asked, e: &Entry) -> String {
+    if e.kind != REGULAR {
+        return "-".into();
+    }
+    match asked.size(e.id) {
+        Ok(n) => n.to_string(),
+        Err(UNSUPPORTED) => "packed".into(),
+        Err(_) => "?".into(),
+    }
 }

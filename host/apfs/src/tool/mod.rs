@@ -1,12 +1,18 @@
 //! The parts of the command line tool.
 
 pub mod ask;
+mod attribute;
 pub mod cat;
-pub mod date;
+mod container;
+mod date;
 pub mod failure;
-pub mod image;
+mod image;
 pub mod list;
 pub mod ls;
-pub mod node;
-pub mod shown;
+mod node;
+pub mod sample;
+mod shown;
+mod size;
 pub mod stat;
+pub mod usage;
+pub mod xattr;

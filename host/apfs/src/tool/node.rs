@@ -1,5 +1,10 @@
 //! The lines that the port's calls answer.
 
+/// Kinds, the stored 4 bits.
+pub const DIRECTORY: u64 = 4;
+pub const REGULAR: u64 = 8;
+pub const LINK: u64 = 10;
+
 const COMPRESSED: u64 = 0x20;
 
 /// An inode's fields, in the line's order.
@@ -27,7 +32,7 @@ pub struct Entry {
 }
 
 /// The text after an `x`.
-fn hex(word: &str) -> Option<String> {
+pub fn text(word: &str) -> Option<String> {
     let digits = word.strip_prefix('x')?.as_bytes();
     let digit = |b: u8| char::from(b).to_digit(16);
     let byte = |pair: &[u8]| Some((digit(pair[0])? << 4 | digit(*pair.get(1)?)?) as u8);
@@ -67,7 +72,7 @@ impl Node {
             owner: n(10)?,
             group: n(11)?,
             mode: n(12)?,
-            name: maybe(words[13], hex)?,
+            name: maybe(words[13], text)?,
             stream: maybe(words[14], pair)?,
         })
     }
@@ -89,7 +94,7 @@ impl Entry {
     pub fn parse(line: &str) -> Option<Entry> {
         let words: Vec<&str> = line.strip_prefix("(entry ")?.strip_suffix('\n')?.split(' ').collect();
         let [id, _date, kind, name] = words[..] else { return None };
-        Some(Entry { id: id.parse().ok()?, kind: kind.parse().ok()?, name: hex(name)? })
+        Some(Entry { id: id.parse().ok()?, kind: kind.parse().ok()?, name: text(name)? })
     }
 }
 

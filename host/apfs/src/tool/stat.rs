@@ -1,20 +1,68 @@
-//! An inode's fields in words.
+//! The container and its volumes, or an inode's fields, in words.
 
 use std::io::Write;
 
+use apfs::refusal::words;
+
 use crate::tool::ask::Asked;
+use crate::tool::container::Volume;
 use crate::tool::date::date;
 use crate::tool::failure::Failure;
-use crate::tool::node::Node;
+use crate::tool::node::{Node, DIRECTORY, LINK};
 use crate::tool::shown::{kind, shown};
 
-const DIRECTORY: u64 = 4;
+fn field(out: &mut dyn Write, name: &str, value: &str) -> Result<(), Failure> {
+    Ok(writeln!(out, "{name:16} {value}")?)
+}
 
-pub fn run(asked: &Asked, path: &[u8], out: &mut dyn Write) -> Result<(), Failure> {
-    for (name, value) in fields(&asked.lookup(path)?) {
-        writeln!(out, "{name:16} {value}")?;
+/// The container, and of its volumes all or the one that is asked for.
+pub fn container(asked: &Asked, one: bool, out: &mut dyn Write) -> Result<(), Failure> {
+    if one {
+        asked.open_volume()?;
+    }
+    let c = &asked.container;
+    field(out, "block size", &c.block_size.to_string())?;
+    field(out, "blocks", &c.blocks.to_string())?;
+    field(out, "checkpoint", &c.checkpoint.to_string())?;
+    field(out, "volumes", &c.volumes.len().to_string())?;
+    for (i, oid) in (0..).zip(&c.volumes).filter(|(i, _)| !one || *i == asked.volume) {
+        field(out, &format!("volume {i}"), &format!("id {oid}, {}", volume(asked, i)?))?;
     }
     Ok(())
+}
+
+fn volume(asked: &Asked, i: u64) -> Result<String, Failure> {
+    if let Err(n) = asked.opens(i) {
+        return Ok(refused(n));
+    }
+    Ok(match asked.volume(i)? {
+        Ok(v) => rule(&v),
+        Err(n) => format!("label and rule are not told, as its listing is refused: {}", refused(n)),
+    })
+}
+
+fn refused(number: u64) -> String {
+    format!("{} (refusal {number})", words(number))
+}
+
+fn rule(v: &Volume) -> String {
+    let insensitive = |yes: bool| if yes { "insensitive" } else { "sensitive" };
+    let (case, form) = (insensitive(v.case_insensitive), insensitive(v.normalization_insensitive));
+    format!("label \"{}\", case-{case}, normalization-{form}", shown(&v.label))
+}
+
+pub fn run(asked: &Asked, path: &[u8], out: &mut dyn Write) -> Result<(), Failure> {
+    let node = asked.lookup(path)?;
+    for (name, value) in fields(&node) {
+        field(out, name, &value)?;
+    }
+    match node.kind() {
+        LINK => {
+            let told = asked.link(node.id).unwrap_or_else(refused);
+            field(out, "leads to", &shown(&told))
+        }
+        _ => Ok(()),
+    }
 }
 
 fn fields(n: &Node) -> Vec<(&'static str, String)> {

@@ -1,5 +1,5 @@
-//! Lookups in directories of several sizes, and reads of files in few and many extents. The port
-//! opens the container and the volume in each call; so does the oracle, and beside that it is timed
+//! Lookups in directories of several sizes, their entries a buffer after the other, and reads of files in few and many
+//! extents. The port opens the container and the volume in each call; so does the oracle, and beside that it is timed
 //! on a volume that was opened before.
 
 use std::hint::black_box;
@@ -23,6 +23,9 @@ const EXTENTS: [u64; 2] = [1, 1000];
 const SIZE: u64 = 1 << 20;
 const PIECE: usize = 1 << 16;
 const FILE: u64 = 100;
+const ROOT: u64 = 2;
+/// Of entries, as the tool's `ls` has it.
+const ROOM: usize = 1 << 20;
 
 fn check(port: Option<Port>, image: &Arc<Vec<u8>>, call: &Call) {
     let want = of_image(image, 0, call);
@@ -52,10 +55,11 @@ fn timed(
     let c = container(&image).expect("a container");
     let v = c.volume(0).expect("a volume");
     let mut warm = || calls.iter().for_each(|call| by_oracle(&v, call));
-    let mut buffer = vec![0; PIECE];
+    let mut buffer = vec![0; ROOM];
     let mut ours = || {
         for call in calls {
-            black_box(port.map(|p| p(black_box(&image), 0, call, &mut buffer)));
+            let room = call.room().unwrap_or(PIECE);
+            black_box(port.map(|p| p(black_box(&image), 0, call, &mut buffer[..room])));
         }
     };
     let ours: Option<Timed> = port.is_some().then_some(&mut ours);
@@ -68,6 +72,26 @@ fn lookup(width: u64, port: Option<Port>) -> String {
     let what = format!("lookup through three directories of {width:>6}");
     let call = Call::Lookup { path: path.into() };
     timed(&what, large::directories(width), &[call], &by_oracle, port)
+}
+
+/// Up to the one past the last; the oracle reads the directory once.
+fn entries(width: u64, port: Option<Port>) -> String {
+    let contents = large::spread(width, 0);
+    let image = Arc::new(make(Plan::with_contents(contents.clone(), 5)).image);
+    let (mut calls, mut place, mut last) = (Vec::new(), 0, false);
+    while !last {
+        let call = Call::Entries { id: ROOT, place, length: ROOM };
+        let Answer::Bytes(text) = of_image(&image, 0, &call).answer else { panic!("{call}") };
+        place += text.iter().filter(|&&b| b == b'\n').count() as u64;
+        last = text.is_empty();
+        calls.push(call);
+    }
+    let by_oracle = |v: &Volume, call: &Call| {
+        if let Call::Entries { place: 0, .. } = call {
+            black_box(v.read_dir(ROOT).expect("entries"));
+        }
+    };
+    timed(&format!("a directory of {width:>6} entries, in buffers of 1 MiB"), contents, &calls, &by_oracle, port)
 }
 
 fn read(extents: u64, port: Option<Port>) -> String {
@@ -87,5 +111,6 @@ fn read(extents: u64, port: Option<Port>) -> String {
 /// Medians in lines of text; without a port, the oracle's alone.
 pub fn run(port: Option<Port>) -> String {
     let lookups = WIDTHS.into_iter().map(|n| lookup(n, port));
-    lookups.chain(EXTENTS.into_iter().map(|n| read(n, port))).collect()
+    let entries = WIDTHS.into_iter().map(|n| entries(n, port));
+    lookups.chain(entries).chain(EXTENTS.into_iter().map(|n| read(n, port))).collect()
 }

@@ -17,7 +17,17 @@ pub enum Call {
         id: u64,
         place: u64,
     },
+    /// From `place` on, into a buffer of `length` bytes.
+    Entries {
+        id: u64,
+        place: u64,
+        length: usize,
+    },
     Xattr {
+        id: u64,
+        place: u64,
+    },
+    XattrBytes {
         id: u64,
         place: u64,
     },
@@ -30,7 +40,7 @@ pub enum Call {
     },
 }
 
-pub const NAMES: [&str; 6] = ["lookup", "read", "entry", "xattr", "link", "extent"];
+pub const NAMES: [&str; 8] = ["lookup", "read", "entry", "entries", "xattr", "xattr_bytes", "link", "extent"];
 
 impl Call {
     /// One of [`NAMES`].
@@ -39,9 +49,19 @@ impl Call {
             Call::Lookup { .. } => "lookup",
             Call::Read { .. } => "read",
             Call::Entry { .. } => "entry",
+            Call::Entries { .. } => "entries",
             Call::Xattr { .. } => "xattr",
+            Call::XattrBytes { .. } => "xattr_bytes",
             Call::Link { .. } => "link",
             Call::Extent { .. } => "extent",
+        }
+    }
+
+    /// The buffer's length, where the answer goes by it.
+    pub fn room(&self) -> Option<usize> {
+        match self {
+            Call::Read { length, .. } | Call::Entries { length, .. } => Some(*length),
+            _ => None,
         }
     }
 }
@@ -51,10 +71,12 @@ impl fmt::Display for Call {
         match self {
             Call::Lookup { path } => write!(f, "lookup of \"{}\"", path.escape_ascii()),
             Call::Read { id, offset, length } => write!(f, "read of {id} at {offset}, {length} bytes"),
+            Call::Entries { id, place, length } => write!(f, "entries of {id} from {place} on, {length} bytes"),
             Call::Link { id } => write!(f, "link of {id}"),
-            Call::Entry { id, place } | Call::Xattr { id, place } | Call::Extent { id, place } => {
-                write!(f, "{} {place} of {id}", self.name())
-            }
+            Call::Entry { id, place }
+            | Call::Xattr { id, place }
+            | Call::XattrBytes { id, place }
+            | Call::Extent { id, place } => write!(f, "{} {place} of {id}", self.name()),
         }
     }
 }

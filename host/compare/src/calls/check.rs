@@ -73,10 +73,7 @@ impl Subject<'_> {
     }
 
     pub fn check(&self, want: &Expected, random: &mut Random) -> Result<(), String> {
-        let asked = match self.call {
-            Call::Read { length, .. } => Some(*length),
-            _ => None,
-        };
+        let asked = self.call.room();
         match (&want.answer, asked) {
             (Answer::Bytes(b), Some(length)) => self.once(length, b.len() as i64, b),
             (Answer::Bytes(b), None) => self.text(b, random),

@@ -5,6 +5,7 @@ use sticks::contents::{self, Contents, File};
 use sticks::random::Random;
 
 use crate::calls::call::Call;
+use crate::calls::line;
 use crate::calls::lists::Lists;
 
 const ROOT: u64 = 2;
@@ -14,6 +15,9 @@ const FILES: usize = 2;
 /// Of a longer list only some places are asked for.
 const PLACES: u64 = 5;
 const LONGEST_READ: u64 = 1 << 17;
+const ROOM: usize = 300;
+/// So many buffers are tried at each place that there are entries from.
+const ROOMS: usize = 4;
 const WIDE: [&str; 4] = ["é", "日本", "\u{1f9ed}", "\u{fffd}"];
 
 pub fn lookups(c: &Contents, r: &mut Random) -> Vec<Call> {
@@ -28,7 +32,9 @@ pub fn each(r: &mut Random) -> Vec<Call> {
         Call::Lookup { path: vec![b'a', 0xff] },
         Call::Read { id, offset: place, length: r.place(9) },
         Call::Entry { id, place },
+        Call::Entries { id, place, length: ROOM },
         Call::Xattr { id, place },
+        Call::XattrBytes { id, place },
         Call::Link { id },
         Call::Extent { id, place },
     ]
@@ -115,6 +121,35 @@ pub fn on(l: &Lists, id: u64, block_size: u64, r: &mut Random) -> Vec<Call> {
     let reads = if l.size() > 0 { READS } else { 1 };
     out.extend((0..reads).map(|_| read(id, l.size(), extents, block_size, r)));
     out
+}
+
+/// Entries from a place on in one call, and the bytes of attributes.
+pub fn in_one_call(l: &Lists, id: u64, r: &mut Random) -> Vec<Call> {
+    let lines: Vec<usize> = l.entries.iter().flatten().map(|e| line::entry(e).len()).collect();
+    let xattrs = l.xattrs.as_ref().map_or(1, Vec::len);
+    let mut out: Vec<Call> = places(xattrs, r).into_iter().map(|place| Call::XattrBytes { id, place }).collect();
+    for place in places(lines.len(), r) {
+        let rest = usize::try_from(place).ok().and_then(|i| lines.get(i..)).unwrap_or_default();
+        let rooms = if rest.is_empty() { 1 } else { ROOMS };
+        out.extend((0..rooms).map(|_| Call::Entries { id, place, length: room(rest, r) }));
+    }
+    out
+}
+
+/// About as long as none, some or all of the lines.
+fn room(lines: &[usize], r: &mut Random) -> usize {
+    let some = lines.iter().take(r.place(lines.len() + 1)).sum::<usize>();
+    let (first, all) = (lines.first().copied().unwrap_or(0), lines.iter().sum::<usize>());
+    match r.below(8) {
+        0 => 0,
+        1 => first.saturating_sub(1),
+        2 => first,
+        3 => some,
+        4 => some.saturating_sub(1),
+        5 => some + r.place(40),
+        6 => all.saturating_sub(r.place(2)),
+        _ => all + r.place(ROOM),
+    }
 }
 
 /// Every place up to one past the end of a short list, the ends and some others of a long one.

@@ -3,7 +3,7 @@
 use std::sync::Arc;
 
 use oracle::error::Error;
-use oracle::fs::{Extent, Inode, Volume};
+use oracle::fs::{Extent, Inode, Volume, Xattr, XattrData};
 use oracle::nx::Container;
 use oracle::probe;
 
@@ -111,7 +111,9 @@ pub fn of_volume(image: &[u8], c: &Container, v: &Volume, call: &Call) -> Expect
         Call::Lookup { path } => lookup(v, path),
         Call::Read { id, offset, length } => read(v, *id, *offset, *length),
         Call::Entry { id, place } => entry(v, *id, *place),
+        Call::Entries { id, place, length } => entries(v, *id, *place, *length),
         Call::Xattr { id, place } => xattr(image, c, v, *id, *place),
+        Call::XattrBytes { id, place } => xattr_bytes(image, c, v, *id, *place),
         Call::Link { id } => link(image, c, v, *id),
         Call::Extent { id, place } => extent(v, *id, *place),
     });
@@ -163,19 +165,49 @@ fn entry(v: &Volume, id: u64, place: u64) -> Told {
     }
 }
 
-fn xattr(image: &[u8], c: &Container, v: &Volume, id: u64, place: u64) -> Told {
+/// As many whole lines as fit; 6 where there is one and it does not fit.
+fn entries(v: &Volume, id: u64, place: u64, room: usize) -> Told {
+    let list = v.read_dir(id)?;
+    let rest = usize::try_from(place).ok().and_then(|i| list.get(i..)).unwrap_or_default();
+    let mut text = String::new();
+    for (i, e) in rest.iter().enumerate() {
+        let line = line::entry(e);
+        if text.len() + line.len() > room {
+            return if i == 0 { Err(Stop::Added(TOO_SHORT)) } else { answered(text, "as many as fit") };
+        }
+        text += &line;
+    }
+    answered(text, if rest.is_empty() { "past the end" } else { "to the end" })
+}
+
+/// The attribute at a place and its bytes.
+fn attribute(image: &[u8], c: &Container, v: &Volume, id: u64, place: u64) -> Result<Option<(Xattr, Vec<u8>)>, Stop> {
     let list = v.xattrs(id)?;
-    let Some(x) = at(&list, place) else { return answered("", "past the end") };
+    let Some(x) = at(&list, place) else { return Ok(None) };
     match stream::data(image, c, v, x)? {
-        stream::Data::Whole(data) => answered(line::attribute(x, &data), stored(x)),
+        stream::Data::Whole(data) => Ok(Some((x.clone(), data))),
         stream::Data::Long(_) => Err(Stop::Added(TOO_SHORT)),
     }
 }
 
-fn stored(x: &oracle::fs::Xattr) -> &'static str {
+fn xattr(image: &[u8], c: &Container, v: &Volume, id: u64, place: u64) -> Told {
+    match attribute(image, c, v, id, place)? {
+        Some((x, data)) => answered(line::attribute(&x, &data), stored(&x)),
+        None => answered("", "past the end"),
+    }
+}
+
+fn xattr_bytes(image: &[u8], c: &Container, v: &Volume, id: u64, place: u64) -> Told {
+    match attribute(image, c, v, id, place)? {
+        Some((x, data)) => answered(data, stored(&x)),
+        None => answered("", "past the end"),
+    }
+}
+
+fn stored(x: &Xattr) -> &'static str {
     match x.data {
-        oracle::fs::XattrData::Embedded(_) => "embedded",
-        oracle::fs::XattrData::Stream { .. } => "stream",
+        XattrData::Embedded(_) => "embedded",
+        XattrData::Stream { .. } => "stream",
     }
 }
 

@@ -28,7 +28,9 @@ pub fn port(image: &[u8], volume: u64, call: &Call, out: &mut [u8]) -> i64 {
         Call::Lookup { path } => calls::lookup(image, volume, path, out),
         Call::Read { id, offset, .. } => calls::read(image, volume, *id, *offset, out),
         Call::Entry { id, place } => calls::entry(image, volume, *id, *place, out),
+        Call::Entries { id, place, .. } => calls::entries(image, volume, *id, *place, out),
         Call::Xattr { id, place } => calls::xattr(image, volume, *id, *place, out),
+        Call::XattrBytes { id, place } => calls::xattr_bytes(image, volume, *id, *place, out),
         Call::Link { id } => calls::link(image, volume, *id, out),
         Call::Extent { id, place } => calls::extent(image, volume, *id, *place, out),
     }

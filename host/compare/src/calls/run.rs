@@ -173,7 +173,9 @@ impl Trial<'_> {
         for id in draw::ids(plan, &mut self.random) {
             let lists = Lists::of(&v, id);
             self.met.count(&lists, probe::block_count(c), c.block_size().into());
-            for call in draw::on(&lists, id, c.block_size().into(), &mut self.random) {
+            let mut calls = draw::on(&lists, id, c.block_size().into(), &mut self.random);
+            calls.extend(draw::in_one_call(&lists, id, &mut self.random));
+            for call in calls {
                 let want = expected::of_volume(&image, c, &v, &call);
                 self.judge(i, call, want)?;
             }

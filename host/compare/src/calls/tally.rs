@@ -20,7 +20,8 @@ fn wanted(call: &str) -> Vec<Kind> {
             (&["at or past the end", "into no buffer", "zeros alone", "of one extent", "of several extents"], &[2, 8])
         }
         "entry" => (&["entry", "past the end"], &[8]),
-        "xattr" => (&["embedded", "stream", "past the end"], &[6, 8]),
+        "entries" => (&["as many as fit", "to the end", "past the end"], &[6, 8]),
+        "xattr" | "xattr_bytes" => (&["embedded", "stream", "past the end"], &[6, 8]),
         "link" => (&["embedded", "stream"], &[8]),
         _ => (&["hole", "extent", "past the end"], &[8]),
     };
@@ -62,7 +63,7 @@ impl fmt::Display for Tally {
         for call in NAMES {
             let kinds = self.seen.iter().filter(|((c, _), _)| *c == call);
             let words: Vec<String> = kinds.map(|((_, kind), n)| format!("{kind} {n}")).collect();
-            writeln!(f, "{call:6} {}", words.join("; "))?;
+            writeln!(f, "{call:11} {}", words.join("; "))?;
         }
         Ok(())
     }

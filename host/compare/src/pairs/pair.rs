@@ -29,8 +29,7 @@ impl Pair<'_> {
     }
 
     fn call(&self, which: usize, call: &Call) -> Said {
-        let length = if let Call::Read { length, .. } = call { *length } else { LINE };
-        let mut buffer = pattern(length);
+        let mut buffer = pattern(call.room().unwrap_or(LINE));
         let n = (self.ports.call)(self.images[which], self.volume, call, &mut buffer);
         Said { n, buffer }
     }

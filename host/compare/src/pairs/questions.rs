@@ -60,7 +60,9 @@ fn lists(f: &File, r: &mut Random) -> Vec<Call> {
     let id = f.inode.id;
     vec![
         Call::Entry { id, place: r.below(f.entries.len() as u64 + 2) },
+        Call::Entries { id, place: r.below(f.entries.len() as u64 + 2), length: r.pick(&[0, 60, 200, 4000]) },
         Call::Xattr { id, place: r.below(f.attributes.len() as u64 + 2) },
+        Call::XattrBytes { id, place: r.below(f.attributes.len() as u64 + 2) },
         Call::Link { id },
     ]
 }

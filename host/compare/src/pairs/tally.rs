@@ -21,7 +21,7 @@ pub struct Tally {
 }
 
 /// Answers that a run must have seen.
-const WANTED: [&str; 11] = [
+const WANTED: [&str; 14] = [
     "list answered",
     "list refused with 6",
     "list refused with 10",
@@ -33,6 +33,9 @@ const WANTED: [&str; 11] = [
     "read refused with 3",
     "read of nothing",
     "link answered",
+    "entries answered",
+    "entries refused with 6",
+    "xattr_bytes answered",
 ];
 
 impl Tally {

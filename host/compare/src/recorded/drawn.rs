@@ -113,7 +113,7 @@ impl Drawing {
 
     /// One call of each kind.
     fn each(&mut self, volume: u64, out: &mut Vec<Asking>) {
-        for call in draw::each(&mut self.random) {
+        for call in draw::each(&mut self.random).into_iter().filter(file::has_op) {
             self.ask(volume, Asked::Call(call), out);
         }
         self.ask(volume, Asked::List, out);
@@ -144,8 +144,8 @@ impl Drawing {
     fn ask(&mut self, volume: u64, asked: Asked, out: &mut Vec<Asking>) {
         let mut question = Question { volume, asked, room: LONGEST };
         question.room = match (&question.asked, told(&self.image, &question)) {
-            (Asked::Call(Call::Read { length, .. }), _) if *length > LONGEST => return,
-            (Asked::Call(Call::Read { length, .. }), _) => *length,
+            (Asked::Call(call), _) if call.room().is_some_and(|n| n > LONGEST) => return,
+            (Asked::Call(call), _) if call.room().is_some() => call.room().unwrap_or_default(),
             (_, Some(Told::Bytes(b))) => {
                 let n = b.len();
                 self.random.pick(&[n, n, n + 1, n + 30, n.saturating_sub(1), self.random.clone().place(n + 1)])

@@ -79,6 +79,11 @@ impl File {
     }
 }
 
+/// Whether `crates/cases` has an op for the call.
+pub fn has_op(call: &Call) -> bool {
+    !matches!(call, Call::Entries { .. } | Call::XattrBytes { .. })
+}
+
 fn coded(asked: &Asked) -> (u8, u64, u64, &[u8]) {
     match asked {
         Asked::Open => (3, 0, 0, b""),
@@ -89,6 +94,8 @@ fn coded(asked: &Asked) -> (u8, u64, u64, &[u8]) {
         Asked::Call(Call::Link { id }) => (8, *id, 0, b""),
         Asked::Call(Call::Extent { id, place }) => (9, *id, *place, b""),
         Asked::List => (10, 0, 0, b""),
+        Asked::Call(Call::Entries { id, place, .. }) => (11, *id, *place, b""),
+        Asked::Call(Call::XattrBytes { id, place }) => (12, *id, *place, b""),
     }
 }
 

@@ -61,6 +61,8 @@ fn asked(op: u8, a: u64, b: u64, room: usize, input: &[u8]) -> Result<Asked, Str
         8 => Asked::Call(Call::Link { id: a }),
         9 => Asked::Call(Call::Extent { id: a, place: b }),
         10 => Asked::List,
+        11 => Asked::Call(Call::Entries { id: a, place: b, length: room }),
+        12 => Asked::Call(Call::XattrBytes { id: a, place: b }),
         _ => return Err(format!("no op {op}")),
     })
 }

@@ -71,5 +71,8 @@ fn a_tally_counts_by_call_and_kind() {
     assert!(!t.missing().contains(&"link: refused with 2".to_string()));
     assert!(t.missing().contains(&"link: refused with 3".to_string()));
     let shown = t.to_string();
-    assert!(shown.contains("lookup root 1; added 9 1\n") && shown.contains("link   refused with 2 3\n"), "{shown}");
+    assert!(
+        shown.contains("lookup      root 1; added 9 1\n") && shown.contains("link        refused with 2 3\n"),
+        "{shown}"
+    );
 }

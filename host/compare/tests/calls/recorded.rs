@@ -28,7 +28,8 @@ fn differ(records: &[Recorded], m: Mistake, slip: Slip) -> usize {
 fn every_mistake_is_found() {
     let records = of_cases().expect("a whole file");
     assert_eq!(differ(&records, Mistake::None, Slip::None), 0);
-    let missed: Vec<Mistake> = mistake::ALL.into_iter().filter(|&m| differ(&records, m, Slip::None) == 0).collect();
+    let missed: Vec<Mistake> =
+        mistake::RECORDED.into_iter().filter(|&m| differ(&records, m, Slip::None) == 0).collect();
     assert_eq!(missed, []);
     let missed: Vec<Slip> = list::ALL.into_iter().filter(|&s| differ(&records, Mistake::None, s) == 0).collect();
     assert_eq!(missed, []);

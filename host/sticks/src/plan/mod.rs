@@ -7,6 +7,7 @@ mod names;
 mod otherwise;
 mod proper;
 mod ring;
+mod sample;
 mod shape;
 
 use crate::checkpoint::Ring;
@@ -166,6 +167,12 @@ impl Plan {
         let mut r = Random::new(seed);
         let tree = &mut plan.volumes[0].tree;
         (tree.leaf, tree.index) = (r.pick(&[2, 5, 12, 4000]), r.pick(&[2, 3, 6, 4000]));
+        Plan { ring: ring::full(plan.xid, 2), history: false, ..plan }
+    }
+
+    /// A small stick to try a reader on, always the same.
+    pub fn sample() -> Plan {
+        let plan = Plan::with_contents(sample::contents(), 1);
         Plan { ring: ring::full(plan.xid, 2), history: false, ..plan }
     }
 

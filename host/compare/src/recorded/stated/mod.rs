@@ -58,10 +58,7 @@ impl Stated {
     }
 
     pub fn call(call: Call, said: Said) -> Stated {
-        let room = match call {
-            Call::Read { length, .. } => length,
-            _ => ROOM,
-        };
+        let room = call.room().unwrap_or(ROOM);
         Stated::new(Asked::Call(call), room, said)
     }
 

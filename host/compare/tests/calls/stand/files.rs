@@ -3,7 +3,7 @@
 use oracle::probe;
 
 use super::mistake::Mistake as M;
-use super::records::{Attribute, Data, Extent};
+use super::records::{Attribute, Data, Entry, Extent};
 use super::{test, Answer, Stand};
 
 /// No buffer here is longer.
@@ -15,9 +15,37 @@ impl Stand<'_> {
     }
 
     pub fn entry(&self, id: u64, place: u64) -> Answer<Vec<u8>> {
-        let list = self.entries(id, Some(place))?;
+        let list = self.entries_while(id, &|l| !self.has(M::EntryAlone) || l.len() as u64 <= place)?;
         let Some(e) = list.get(place.min(1 << 40) as usize) else { return Ok(Vec::new()) };
-        Ok(format!("(entry {} {} {} {}\n", e.id, e.date, e.kind, self.hex(e.name.as_bytes())).into_bytes())
+        Ok(self.entry_line(e).into_bytes())
+    }
+
+    pub fn entry_line(&self, e: &Entry) -> String {
+        format!("(entry {} {} {} {}\n", e.id, e.date, e.kind, self.hex(e.name.as_bytes()))
+    }
+
+    /// As many whole lines as fit.
+    pub fn entries_from(&self, id: u64, place: u64, room: usize) -> Answer<Vec<u8>> {
+        let skip = if self.has(M::EntriesFromTheFirst) { 0 } else { place.min(1 << 40) as usize };
+        let over = |l: &[Entry]| l.iter().skip(skip).map(|e| self.entry_line(e).len()).sum::<usize>() > room;
+        let list = self.entries_while(id, &|l| !self.has(M::EntriesThatFitAlone) || !over(l))?;
+        let lines: Vec<String> = list.iter().skip(skip).map(|e| self.entry_line(e)).collect();
+        let mut out = Vec::new();
+        for line in &lines {
+            if out.len() + line.len() + usize::from(self.has(M::EntriesByOne)) <= room {
+                out.extend(line.bytes());
+            } else if self.has(M::EntriesPassedOver) {
+                continue;
+            } else if self.has(M::EntriesCut) {
+                out.extend(line.bytes().take(room - out.len()));
+                break;
+            } else {
+                test(!self.has(M::EntriesAllOrNone), 6)?;
+                break;
+            }
+        }
+        test(lines.is_empty() || !out.is_empty() || self.has(M::EntriesShortAsNone), 6)?;
+        Ok(out)
     }
 
     pub fn extent(&self, id: u64, place: u64) -> Answer<Vec<u8>> {
@@ -38,6 +66,24 @@ impl Stand<'_> {
             Data::Stream { id, .. } => format!("s {id}"),
         };
         Ok(format!("(attr {} {} {form} {})\n", a.flags, self.hex(a.name.as_bytes()), self.hex(&data)).into_bytes())
+    }
+
+    pub fn xattr_bytes(&self, id: u64, place: u64, room: usize) -> Answer<Vec<u8>> {
+        let list = self.attributes(id)?;
+        let Some(a) = list.get(place.min(1 << 40) as usize) else { return Ok(Vec::new()) };
+        test(!self.has(M::BytesShortBeforeFaults) || a.size() <= room as u64, 6)?;
+        let (mut data, size) = self.contents(a)?;
+        test(size <= LONGEST, 6)?;
+        if self.has(M::BytesToZero) {
+            data.truncate(data.iter().position(|&b| b == 0).unwrap_or(data.len()));
+        }
+        if self.has(M::BytesThatFit) {
+            data.truncate(room);
+        }
+        if self.has(M::BytesAsText) {
+            data = String::from_utf8_lossy(&data).into_owned().into_bytes();
+        }
+        Ok(data)
     }
 
     pub fn link(&self, id: u64) -> Answer<Vec<u8>> {

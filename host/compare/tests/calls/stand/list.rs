@@ -109,14 +109,14 @@ impl Lister<'_> {
         test(depth <= self.deepest(), 10)?;
         if self.has(S::ListsBeforeLine) {
             self.stand.attributes(id)?;
-            self.stand.entries(id, None)?;
+            self.stand.entries(id)?;
         }
         self.line(&self.stand.node(&inode))?;
         let attributes = self.stand.attributes(id)?;
         if self.has(S::EntriesAfterAttributes) {
             self.attributes(&attributes)?;
         }
-        let entries = self.stand.entries(id, None)?;
+        let entries = self.stand.entries(id)?;
         if self.has(S::ContentsFirst) {
             self.contents(&inode)?;
         }
@@ -134,7 +134,7 @@ impl Lister<'_> {
 
     fn entry(&mut self, e: &Entry, depth: u64) -> Answer<()> {
         test(depth < self.deepest() || !self.has(S::DeepBeforeLine), 10)?;
-        self.line(&format!("(entry {} {} {} {}\n", e.id, e.date, e.kind, self.stand.hex(e.name.as_bytes())))?;
+        self.line(&self.stand.entry_line(e))?;
         self.node(e.id, depth + 1)?;
         self.line(")\n")
     }

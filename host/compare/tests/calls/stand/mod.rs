@@ -62,7 +62,9 @@ impl Stand<'_> {
             Call::Lookup { path } => self.lookup(path),
             Call::Read { id, offset, .. } => self.read(*id, *offset, out),
             Call::Entry { id, place } => self.entry(*id, *place),
+            Call::Entries { id, place, .. } => self.entries_from(*id, *place, out.len()),
             Call::Xattr { id, place } => self.xattr(*id, *place),
+            Call::XattrBytes { id, place } => self.xattr_bytes(*id, *place, out.len()),
             Call::Link { id } => self.link(*id),
             Call::Extent { id, place } => self.extent(*id, *place),
         }

@@ -13,7 +13,7 @@ impl Stand<'_> {
         let mut at = self.inode(2)?;
         let separates = |c: char| c == '/' || c == '\\' && !self.has(M::SlashAlone);
         for part in path.split(separates).filter(|p| !p.is_empty() || self.has(M::EmptyParts) && path.len() > 2) {
-            let entries = self.entries(at.id, None)?;
+            let entries = self.entries(at.id)?;
             let id = self.find(&entries, part)?;
             at = self.inode(id)?;
         }

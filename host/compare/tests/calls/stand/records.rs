@@ -37,6 +37,15 @@ pub struct Attribute {
     pub data: Data,
 }
 
+impl Attribute {
+    pub fn size(&self) -> u64 {
+        match &self.data {
+            Data::Embedded(b) => b.len() as u64,
+            Data::Stream { size, .. } => *size,
+        }
+    }
+}
+
 #[derive(Clone, Copy)]
 pub struct Extent {
     pub logical: u64,
@@ -135,15 +144,20 @@ impl Stand<'_> {
         Ok(())
     }
 
-    /// The whole list, or as much of it as the place needs where that is the mistake.
-    pub fn entries(&self, id: u64, place: Option<u64>) -> Answer<Vec<Entry>> {
+    /// The whole list.
+    pub fn entries(&self, id: u64) -> Answer<Vec<Entry>> {
+        self.entries_while(id, &|_| true)
+    }
+
+    /// As much of the list as a port needs that does not read it whole.
+    pub fn entries_while(&self, id: u64, on: &dyn Fn(&[Entry]) -> bool) -> Answer<Vec<Entry>> {
         let mut out = Vec::new();
         self.records(id, 9, &mut |k, v| {
             let name = self.entry_name(k)?;
             let b = part(v, 0, 18)?;
             let mask = if self.has(M::KindOf16Bits) { 0xffff } else { 0xf };
             out.push(Entry { id: get64(b, 0), date: get64(b, 8), kind: get16(b, 16) & mask, name });
-            Ok(!self.has(M::EntryAlone) || place.is_none_or(|p| out.len() as u64 <= p))
+            Ok(on(&out))
         })?;
         Ok(out)
     }

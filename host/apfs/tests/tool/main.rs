@@ -2,53 +2,20 @@
 
 #![cfg(feature = "calls")]
 
+mod errors;
+mod image;
+mod sample;
+
 use std::io::Read;
-use std::path::{Path, PathBuf};
+use std::path::Path;
 use std::process::{Command, Output, Stdio};
 
+use image::{out, refused, Image};
 use sticks::contents::{Contents, Source};
 use sticks::plan::large;
 use sticks::random::Random;
-use sticks::{make, Plan};
 
 const SIZE: u64 = 300_000;
-
-/// An image in a file that goes with the value.
-struct Image(PathBuf);
-
-impl Image {
-    fn of(name: &str, bytes: &[u8]) -> Image {
-        let file = Path::new(env!("CARGO_TARGET_TMPDIR")).join(format!("{name}-{}.img", std::process::id()));
-        std::fs::write(&file, bytes).expect("an image");
-        Image(file)
-    }
-
-    fn holding(name: &str, contents: Contents) -> Image {
-        Image::of(name, &make(Plan::with_contents(contents, 3)).image)
-    }
-
-    fn run(&self, words: &[&str], path: &[&str]) -> Output {
-        let mut command = Command::new(env!("CARGO_BIN_EXE_apfs"));
-        command.args(words).arg(&self.0).args(path).output().expect("the tool")
-    }
-}
-
-impl Drop for Image {
-    fn drop(&mut self) {
-        let _ = std::fs::remove_file(&self.0);
-    }
-}
-
-fn out(o: Output) -> String {
-    assert!(o.status.success() && o.stderr.is_empty(), "{o:?}");
-    String::from_utf8(o.stdout).expect("text")
-}
-
-fn refused(o: Output, number: u64) {
-    assert_eq!((o.status.code(), o.stdout.len()), (Some(1), 0), "{o:?}");
-    let words = String::from_utf8_lossy(&o.stderr).into_owned();
-    assert!(words.contains(&format!("(refusal {number})")) && words.starts_with("apfs: "), "{words}");
-}
 
 fn file() -> (Contents, Vec<u8>) {
     let contents = large::file(SIZE, 7, 4096, &mut Random::new(1));
@@ -71,6 +38,17 @@ fn directories_are_listed() {
 }
 
 #[test]
+fn a_directory_past_one_buffer_is_listed_whole() {
+    const ENTRIES: u64 = 40_000;
+    let image = Image::holding("wide", large::spread(ENTRIES, 0));
+    let text = out(image.run(&["ls"], &[]));
+    let mut names: Vec<&str> = text.lines().filter_map(|l| l.strip_prefix("file                0 ")).collect();
+    names.sort();
+    assert!(names.iter().zip(0..ENTRIES).all(|(name, i)| *name == format!("entry-{i:06}")));
+    assert_eq!(names.len() as u64, ENTRIES);
+}
+
+#[test]
 fn sizes_are_the_files_own() {
     let image = Image::holding("size", file().0);
     assert_eq!(out(image.run(&["ls"], &["/"])), "file           300000 data\n");
@@ -78,7 +56,7 @@ fn sizes_are_the_files_own() {
     for line in ["id               100", "kind             file", "mode             0755", "size             300000"] {
         assert!(stat.lines().any(|l| l == line), "{line} in {stat}");
     }
-    let root = out(image.run(&["stat"], &[]));
+    let root = out(image.run(&["stat"], &["/"]));
     assert!(root.starts_with("id               2\n") && root.contains("kind             dir\n"), "{root}");
 }
 
@@ -109,17 +87,6 @@ fn a_path_of_any_bytes_is_handed_on() {
     let path = std::ffi::OsStr::from_bytes(b"a\xff");
     let o = Command::new(env!("CARGO_BIN_EXE_apfs")).arg("stat").arg(&image.0).arg(path).output();
     refused(o.expect("the tool"), 5);
-}
-
-#[test]
-fn wrong_arguments_are_told() {
-    let image = Image::of("arguments", b"");
-    for words in [&["cat"][..], &["lost"], &["--volume", "x", "ls"], &["--volume"]] {
-        let o = image.run(words, &[]);
-        assert_eq!(o.status.code(), Some(2), "{words:?} {o:?}");
-        assert!(String::from_utf8_lossy(&o.stderr).starts_with("usage:"));
-    }
-    assert_eq!(image.run(&["list"], &["path"]).status.code(), Some(2));
 }
 
 #[test]
@@ -158,9 +125,10 @@ fn left_early(image: &Image, words: &[&str], path: &[&str]) -> Output {
 #[test]
 fn a_closed_pipe_ends_quietly() {
     let image = Image::holding("pipe", large::file(4 * SIZE, 3, 4096, &mut Random::new(2)));
-    for (words, path) in [(["cat"], &["data"][..]), (["list"], &[])] {
-        let o = left_early(&image, &words, path);
-        assert!(o.status.success() && o.stderr.is_empty(), "{words:?} {o:?}");
+    let wide = Image::holding("wide-pipe", large::spread(4000, 0));
+    for (image, words, path) in [(&image, "cat", &["data"][..]), (&image, "list", &[]), (&wide, "ls", &[])] {
+        let o = left_early(image, &[words], path);
+        assert!(o.status.success() && o.stderr.is_empty(), "{words} {o:?}");
     }
 }
 

@@ -1,0 +1,26 @@
+//! How to call it.
+
+const COMMANDS: [(&str, &str, &str); 6] = [
+    ("sample", "FILE", "writes a small stick to try the others on"),
+    ("ls", "IMAGE [PATH]", "what a directory holds: kind, size, name"),
+    ("stat", "IMAGE [PATH]", "the container and its volumes; with a path, an inode's fields"),
+    ("cat", "IMAGE PATH", "a file's bytes"),
+    ("xattr", "IMAGE PATH [NAME]", "the attributes: flags, form, size, name; with a name, its bytes"),
+    ("list", "IMAGE", "the listing of a whole volume"),
+];
+
+/// Of one command, in a line.
+pub fn of(name: &str) -> String {
+    match COMMANDS.iter().find(|c| c.0 == name) {
+        Some(("sample", words, _)) => format!("usage: apfs sample {words}"),
+        Some((name, words, _)) => format!("usage: apfs {name} {words} [--volume N]"),
+        None => all(),
+    }
+}
+
+pub fn all() -> String {
+    let lines: Vec<String> =
+        COMMANDS.iter().map(|(name, words, what)| format!("  {:25} {what}", format!("{name} {words}"))).collect();
+    let end = "Each but sample takes --volume N, of the volumes that `stat IMAGE` shows; else it is 0.";
+    format!("usage: apfs COMMAND ..\n{}\n{end}", lines.join("\n"))
+}
