@@ -11,7 +11,7 @@ use borrow.Author.Tests.{ltb-true}
 use lib.Dec.{ltb}
 use mir.Syntax.{w64}
 use mir.Val.{Fits}
-use Rattle.error.specs.Answer.{Answer, got}
+use Rattle.error.specs.Answer.{got}
 use Rattle.error.proofs.Laws.{at-most, above}
 use Rattle.bytes.specs.Number.{numberAt, told}
 use Rattle.bytes.specs.Part.{partOf}

@@ -1,21 +1,19 @@
 -- The checkpoint that a container is opened at: proof of what specs/LatestCheckpoint.antt says.
 use Prim.Native.Nat.{ℕ, _+_, _-_, _*_, _/_, _%_, _^_, _≤_, _<_}
 use mathlib.Core.Path.{_≡_, refl, sym, ap, _∙_}
-use mathlib.Core.Bool.{Bool, true, false}
 use mathlib.Core.List.{List}
 use mathlib.Core.Option.{Option, none, some}
 use lib.ListN.{length}
 use native.Mathlib.Nat.{add-mul, mul-le-mul-right}
 use native.Mathlib.Omega.{arith}
 use Rattle.error.specs.Answer.{Answer, got, no, _>>=_, ifEq}
-use Rattle.error.specs.declared.Refusal.{Refusal}
-use Rattle.error.specs.declared.Refusal.the-variants.{Corrupt, Unsupported}
+use Rattle.error.specs.declared.Refusal.the-variants.{Unsupported}
 use Rattle.error.proofs.Laws.{at-most, same, other, eq-cases}
 use Rattle.bytes.specs.Number.{little}
 use Rattle.bytes.proofs.Laws.{part-length}
 use Rattle.obj.specs.Header.{kindOf}
 use Rattle.obj.specs.declared.header.ObjHeader.{ObjHeader}
-use Rattle.lookup.specs.Counted.{Counted, after, from}
+use Rattle.lookup.specs.Counted.{Counted, from}
 use Rattle.geometry.specs.BlockZero.{geometryAt, areaAt}
 use Rattle.geometry.specs.declared.Geometry.{Geometry}
 use Rattle.checkpoints.specs.Superblock.{superblockAt}
@@ -24,10 +22,9 @@ use Rattle.checkpoints.specs.Checkpoint.{acceptedAt, blockPlace, latestIn, orCo
 use Rattle.checkpoints.specs.declared.superblock.Superblock.{Superblock}
 use Rattle.checkpoints.proofs.Candidate.{magic-means, magic-if, superblock-if, marked-facts, candidate-facts, candidate-if, accepted-facts, accepted-candidate}
 use Rattle.checkpoints.proofs.Asked.{same-some}
-use Rattle.checkpoints.proofs.Latest.{LatestOf, latest-of, none-of}
+use Rattle.checkpoints.proofs.Latest.{latest-of, none-of}
 use Rattle.nx.specs.Open.{supported, chosenOf, mappedOf, containerOf, openAt}
-use Rattle.nx.specs.declared.container.Container.{Container}
-use Rattle.nx.specs.LatestCheckpoint.{blockZero, size, placeOf, ringBlock, xidOf, superblockOf, Candidate, Latest, openedAs, Opens, at-latest, no-candidate, LatestCheckpoint}
+use Rattle.nx.specs.LatestCheckpoint.{size, placeOf, ringBlock, xidOf, superblockOf, Candidate, Latest, openedAs, Opens, at-latest, no-candidate, LatestCheckpoint}
 use Rattle.nx.proofs.BlockZero.{same-inside, number-read, number-got, zero-read, area-got, read-means, read-if}
 use Rattle.nx.proofs.Objects.{headerOf, header-read}
 use Rattle.nx.proofs.MapBlocks.{maps-mean, maps-if}

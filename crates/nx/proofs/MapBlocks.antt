@@ -1,5 +1,5 @@
 -- A block is taken for a checkpoint map exactly if it is one; and a candidate's maps are accepted exactly if each is one, up to one with the last flag.
-use Prim.Native.Nat.{ℕ, zero, suc, _+_, _-_, _*_, _%_, _^_, _≤_, _<_}
+use Prim.Native.Nat.{ℕ, zero, suc, _+_, _*_, _%_, _^_, _≤_, _<_}
 use mathlib.Core.Path.{_≡_, refl, sym, ap, _∙_}
 use mathlib.Core.Bool.{Bool, true, false}
 use mathlib.Core.List.{List}
@@ -10,8 +10,7 @@ use native.Mathlib.Decide.{ℕ-discrete}
 use native.Mathlib.Omega.{arith}
 use Rattle.error.specs.Answer.{got, pick, ifEq}
 use Rattle.error.proofs.Laws.{eq-cases, at-most, same}
-use Rattle.bytes.specs.Number.{numberAt, little}
-use Rattle.bytes.specs.Part.{partOf}
+use Rattle.bytes.specs.Number.{little}
 use Rattle.bytes.proofs.Laws.{part-length}
 use Rattle.arith.specs.Checked.{sumOf}
 use Rattle.obj.specs.Block.{objectAt}

@@ -5,7 +5,7 @@ use mathlib.Core.Bool.{true}
 use mathlib.Core.List.{List}
 use lib.ListN.{length}
 use native.Mathlib.Omega.{arith}
-use Rattle.error.specs.Answer.{Answer, got, no, pick}
+use Rattle.error.specs.Answer.{Answer, got}
 use Rattle.error.specs.declared.Refusal.the-variants.{Io, Corrupt}
 use Rattle.error.proofs.Laws.{le-cases, eq-cases, bound, at-most, above, other, picked}
 use Rattle.bytes.specs.Number.{little}

@@ -1,4 +1,5 @@
--- Opening a container. Document 01, "Opening, in order", and nx.rs; Apple File System Reference, "Container".
+-- Opening a container. What this comes to is said in specs/LatestCheckpoint.antt. Document 01, "Opening, in order", and nx.rs; Apple File System
+-- Reference, "Container".
 use Prim.Native.Nat.{ℕ, _/_, _%_, _^_}
 use mathlib.Core.List.{List}
 use lib.ListN.{length}
