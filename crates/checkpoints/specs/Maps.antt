@@ -1,4 +1,4 @@
--- The maps of a checkpoint, as they are gone through. What this comes to is said in nx, specs/LatestCheckpoint.antt. Document 01, "Opening, in order"; Apple File System Reference, "Checkpoints", checkpoint_map_phys_t.
+-- The maps of a checkpoint, as they are gone through. What this comes to is said in nx, specs/LatestCheckpoint.antt. Document 01, "Opening, in order"; Apple File System Reference, "Container", checkpoint_map_phys_t.
 use Prim.Native.Nat.{ℕ, zero, suc, _+_, _-_, _*_, _%_}
 use mathlib.Core.Bool.{Bool, true, false}
 use mathlib.Core.List.{List}

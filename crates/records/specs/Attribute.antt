@@ -1,4 +1,4 @@
--- Extended attributes. Apple File System Reference, "Extended Attributes", j_xattr_key_t, j_xattr_val_t and j_xattr_dstream_t; document 01,
+-- Extended attributes. Apple File System Reference, "File-System Objects", j_xattr_key_t and j_xattr_val_t, and "Data Streams", j_xattr_dstream_t; document 01,
 -- "Records": "Attribute flag 0x1 means a stream of object id and size, else the bytes follow"; the order of reading is that of fs.rs, `xattrs`.
 use Prim.Native.Nat.{ℕ, _%_}
 use mathlib.Core.List.{List}
