@@ -1,5 +1,5 @@
 -- Which checkpoint is taken. What this comes to is said in nx, specs/LatestCheckpoint.antt. Document 01, "Opening, in order"; Apple File System
--- Reference, "Checkpoints".
+-- Reference, "Container", "Mounting an Apple File System Partition".
 use Prim.Native.Nat.{ℕ, zero, suc, _+_, _*_}
 use mathlib.Core.List.{List}
 use mathlib.Core.Option.{Option, none, some}

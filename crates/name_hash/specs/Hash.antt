@@ -1,4 +1,4 @@
--- The hash of a directory entry's name. Document 01, "name_hash.rs", which the quotes are from; Apple File System Reference, "j_drec_hashed_key_t".
+-- The hash of a directory entry's name. Document 01, "name_hash.rs", which the quotes are from; Apple File System Reference, "File-System Objects", j_drec_hashed_key_t.
 use Prim.Native.Nat.{ℕ, zero, suc, _+_, _*_, _/_, _%_, _^_, _-_}
 use mathlib.Core.Bool.{Bool}
 use mathlib.Core.List.{List, [], _∷_}
