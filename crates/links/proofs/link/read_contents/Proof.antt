@@ -1,10 +1,10 @@
 use borrow.Author.Needs.{needs}
 use Rattle.links.proofs.Answers.{answers}
-use Rattle.links.proofs.link.read_target.Statement.{statement}
-use Rattle.links.proofs.link.read_target.Tie as tie
+use Rattle.links.proofs.link.read_contents.Statement.{statement}
+use Rattle.links.proofs.link.read_contents.Tie as tie
 
-pub read-target-spec : {M : Type 1} → statement M
-read-target-spec =
+pub read-contents-spec : {M : Type 1} → statement M
+read-contents-spec =
     tie.close
     (tie.spec
     (λ c κs. search needs)
