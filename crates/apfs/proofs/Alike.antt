@@ -1,131 +1,27 @@
--- The third demand at the exported calls. What a call on a volume answers goes by the volume's view alone; so where two listings are equal, every
--- lookup gets the same text, and at every inode that a chain leads to, every entry, attribute and file read does.
+-- The third demand at the exported calls. What a call on a volume answers goes by the volume's view alone (proofs/Views.antt); so where two listings
+-- are equal, every lookup gets the same text, and at every inode that a chain leads to, every entry, run of entries, attribute, attribute's bytes,
+-- link and file read does.
 use Prim.Native.Nat.{ℕ, zero, suc}
 use mathlib.Core.Path.{_≡_, refl, sym, ap, _∙_}
 use mathlib.Core.List.{List, [], _∷_, map}
-use mathlib.Core.Option.{Option, none, some}
 use native.Mathlib.Omega.{arith}
+use lib.ListN.{drop}
 use Rattle.error.specs.Answer.{Answer, got, no, _>>=_}
-use Rattle.lookup.specs.Counted.{Counted, after, from, onto}
 use Rattle.volume.specs.Open.{volumeOfImage}
 use Rattle.volume.specs.declared.Volume.{Volume}
-use Rattle.records.specs.declared.directory.Entry.{Entry}
-use Rattle.records.specs.declared.attribute.Attribute.{Attribute}
 use Rattle.inode_record.specs.declared.inode.Inode.{Inode}
-use Rattle.lists.specs.Lists.{placed, elementAt, entriesOf, attributesOf, inodeOf}
-use Rattle.files.specs.File.{readFile}
-use Rattle.links.specs.Link.{contentsOf}
-use Rattle.paths.specs.Lookup.{lookupPath}
-use Rattle.lines.specs.Shown.{InodeShown, EntryShown, AttributeShown, inodeShown, entryShown, attributeShown}
-use Rattle.lines.specs.Lines.{nodeLine, entryLine, attributeLine}
+use Rattle.lists.specs.Lists.{elementAt, inodeOf}
+use Rattle.lines.specs.Shown.{InodeShown, EntryShown, inodeShown}
+use Rattle.lines.specs.Lines.{entryLine}
 use Rattle.demand.specs.View.{View}
-use Rattle.demand.specs.Listing.{holding}
-use Rattle.demand.specs.Lookup.{lookup}
-use Rattle.demand.specs.Demand.{withContents, entriesAnswer, attributesAnswer, readAnswer, viewOf, viewAt, listingOf, lookupOf, Met, here, nowhere, refused, chain, Agree, past, on, SameVolumes}
-use Rattle.demand.proofs.Counts.{onto-answer, inode-even, entries-even, attributes-even, contents-even, read-even}
-use Rattle.demand.proofs.Lookups.{lookup-shown, lookup-of-view}
+use Rattle.demand.specs.Demand.{inodeAnswer, entriesAnswer, viewOf, viewAt, listingOf, Met, here, nowhere, refused, met, place, placeIn, onward, follow, chain, Agree, past, on, SameVolumes}
+use Rattle.demand.proofs.Inodes.{inode-placed}
 use Rattle.demand.proofs.Demand.{third-demand}
-use Rattle.calls.specs.OnVolume.{onVolume}
-use Rattle.element_lines.specs.Elements.{entryShow, entryOn, entryText, lookupOn, lookupText}
-use Rattle.attribute_lines.specs.Attributes.{attributeOf, attributeShow, attributeOn, attributeText}
-use Rattle.reads.specs.Reads.{readOn, readText}
-
--- the line of an entry at a place, nothing past the end
-abbrev pub entryLineAt : Option EntryShown → List ℕ
-entryLineAt none = []
-entryLineAt (some e) = entryLine e []
-
--- the line of an attribute, with its contents
-abbrev pub attributeLineAt : Option (AttributeShown (Answer (List ℕ))) → Answer (List ℕ)
-attributeLineAt none = got []
-attributeLineAt (some a) = a.contents >>= λ d. got (attributeLine (holding a d) [])
-
-module _ (image : List ℕ) (v : Volume) where
-  entry-at : (k : ℕ) (es : List Entry) → entryShow image v (elementAt k es) ≡ entryLineAt (elementAt k (map (entryShown (v .reader) image) es))
-  unfolding elementAt
-  entry-at zero [] = refl
-  entry-at (suc k) [] = refl
-  entry-at zero (e ∷ es) = refl
-  entry-at (suc k) (e ∷ es) = entry-at k es
-
-  entry-on : (id k s : ℕ) → entryOn image v id k s .answer ≡ (entriesAnswer image v id >>= λ es. got (entryLineAt (elementAt k es)))
-  unfolding entryOn entriesAnswer
-  entry-on id k s = rw (← entries-even image v id s 0) (of (entriesOf image v id s .nodes) (entriesOf image v id s .answer))
-    where
-      of : (n : ℕ) (a : Answer (List Entry)) → (onto (placed k (after n a)) λ o t. after t (got (entryShow image v o))) .answer
-          ≡ ((a >>= λ es. got (map (entryShown (v .reader) image) es)) >>= λ es. got (entryLineAt (elementAt k es)))
-      of n (got es) = ap got (entry-at k es)
-      of n (no e) = refl
-
-  attribute-of : (a : Attribute) (s : ℕ) → attributeOf image v a s .answer ≡ attributeLineAt (some (withContents image v a))
-  unfolding attributeOf attributeShown
-  attribute-of a s =
-      onto-answer (λ c t. after t (got (attributeLine (attributeShown (v .reader) image a c) []))) (λ c. got (attributeLine (attributeShown (v .reader) image a c) []))
-      (contentsOf image v a s) (contentsOf image v a 0 .answer) (contents-even image v a s 0) (λ c t. refl)
-
-  attribute-at : (k : ℕ) (l : List Attribute) (s : ℕ) → attributeShow image v (elementAt k l) s .answer ≡ attributeLineAt (elementAt k (map (withContents image v) l))
-  unfolding elementAt
-  attribute-at zero [] s = refl
-  attribute-at (suc k) [] s = refl
-  attribute-at zero (a ∷ l) s = attribute-of a s
-  attribute-at (suc k) (a ∷ l) s = attribute-at k l s
-
-  attribute-on : (id k s : ℕ) → attributeOn image v id k s .answer ≡ (attributesAnswer image v id >>= λ l. attributeLineAt (elementAt k l))
-  unfolding attributeOn attributesAnswer
-  attribute-on id k s = rw (← attributes-even image v id s 0) (of (attributesOf image v id s .nodes) (attributesOf image v id s .answer))
-    where
-      of : (n : ℕ) (a : Answer (List Attribute)) → (onto (placed k (after n a)) λ o t. attributeShow image v o t) .answer
-          ≡ ((a >>= λ l. got (map (withContents image v) l)) >>= λ l. attributeLineAt (elementAt k l))
-      of n (got l) = attribute-at k l n
-      of n (no e) = refl
-
-  read-on : (id off len s : ℕ) → readOn image v id off len s .answer ≡ readAnswer image v id off len
-  unfolding readOn readAnswer
-  read-on id off len s =
-      onto-answer (λ i t. readFile image v i off len t) (λ i. readFile image v i off len 0 .answer) (inodeOf image v id s) (inodeOf image v id 0 .answer)
-      (inode-even image v id s 0) (λ i t. read-even image v i off len t 0)
-
-  lookup-on : (path : List ℕ) (s : ℕ) → lookupOn image v path s .answer ≡ (lookup (viewOf image v) path >>= λ f. got (nodeLine f []))
-  unfolding lookupOn
-  lookup-on path s = rw (← lookup-shown image v path s) (of (lookupPath image v path s .nodes) (lookupPath image v path s .answer))
-    where
-      of : (n : ℕ) (a : Answer Inode) → (onto (after n a) λ i t. after t (got (nodeLine (inodeShown (v .reader) image i) []))) .answer
-          ≡ ((a >>= λ i. got (inodeShown (v .reader) image i)) >>= λ f. got (nodeLine f []))
-      of n (got i) = refl
-      of n (no e) = refl
-
--- each call, by the view
-module _ (image : List ℕ) (index : ℕ) where
-  on-view : (f : Volume → ℕ → Counted (List ℕ)) (g : View → Answer (List ℕ)) → ((v : Volume) (s : ℕ) → f v s .answer ≡ g (viewOf image v))
-      → onVolume f image index ≡ (viewAt image index >>= g)
-  unfolding viewAt
-  on-view f g h = of (volumeOfImage image index .nodes) (volumeOfImage image index .answer)
-    where
-      of : (n : ℕ) (a : Answer Volume) → (from n a λ v. f v n) .answer ≡ ((a >>= λ v. got (viewOf image v)) >>= g)
-      of n (got v) = h v n
-      of n (no e) = refl
-
-  pub read-view : (id off len : ℕ) → readText image index id off len ≡ (viewAt image index >>= λ v. v.read id off len)
-  unfolding readText
-  read-view id off len = on-view (λ v s. readOn image v id off len s) (λ v. v.read id off len) (λ v s. read-on image v id off len s)
-
-  pub entry-view : (id k : ℕ) → entryText image index id k ≡ (viewAt image index >>= λ v. v.entries id >>= λ es. got (entryLineAt (elementAt k es)))
-  unfolding entryText
-  entry-view id k = on-view (λ v s. entryOn image v id k s) (λ v. v.entries id >>= λ es. got (entryLineAt (elementAt k es))) (λ v s. entry-on image v id k s)
-
-  pub attribute-view : (id k : ℕ) → attributeText image index id k ≡ (viewAt image index >>= λ v. v.attributes id >>= λ l. attributeLineAt (elementAt k l))
-  unfolding attributeText
-  attribute-view id k = on-view (λ v s. attributeOn image v id k s) (λ v. v.attributes id >>= λ l. attributeLineAt (elementAt k l)) (λ v s. attribute-on image v id k s)
-
-  pub lookup-view : (path : List ℕ) → lookupText image index path ≡ (lookupOf image index path >>= λ f. got (nodeLine f []))
-  unfolding lookupText
-  lookup-view path =
-      on-view (λ v s. lookupOn image v path s) (λ v. lookup v path >>= λ f. got (nodeLine f [])) (λ v s. lookup-on image v path s)
-      ∙ rw (lookup-of-view image index path) (of (viewAt image index))
-    where
-      of : (a : Answer View) → (a >>= λ v. lookup v path >>= λ f. got (nodeLine f [])) ≡ ((a >>= λ v. lookup v path) >>= λ f. got (nodeLine f []))
-      of (got v) = refl
-      of (no e) = refl
+use Rattle.element_lines.specs.Elements.{entryText, lookupText}
+use Rattle.entry_lines.specs.Entries.{fittingSome, entriesText}
+use Rattle.attribute_lines.specs.Attributes.{attributeText}
+use Rattle.reads.specs.Reads.{readText, linkText, xattrBytes}
+use Rattle.apfs.proofs.Views.{entryLineAt, attributeLineAt, attributeBytesAt, linkShown, read-view, entry-view, attribute-view, lookup-view, entries-view, bytes-view, link-view}
 
 -- where a chain leads on a volume, if it opens
 abbrev pub chainOn : Answer View → List ℕ → Met
@@ -145,12 +41,81 @@ module _ (c : List ℕ) (f : InodeShown) (g : View → Answer (List ℕ))
   of-same (no e) (got w) s h = absurd s
   of-same (no d) (no e) s h = absurd s
 
+-- an inode that a chain leads to is the one of its id
+module _ (image : List ℕ) (v : Volume) (f : InodeShown) where
+  abbrev Known : Met → Type 0
+  Known m = m ≡ here f → inodeAnswer image v f.id ≡ got f
+
+  known-inode : (id : ℕ) → Known (met (inodeAnswer image v id))
+  unfolding inodeAnswer inodeShown
+  known-inode id = of (inodeOf image v id 0 .answer) refl
+    where
+      of : (a : Answer Inode) → inodeOf image v id 0 .answer ≡ a → met (a >>= λ i. got (inodeShown (v .reader) image i)) ≡ here f → (inodeOf image v f.id 0 .answer >>= λ i. got (inodeShown (v .reader) image i)) ≡ got f
+      of (got i) e h =
+          let q : inodeShown (v .reader) image i ≡ f = cc in
+          let n : f.id ≡ id = sym (ap (λ (g : InodeShown). g.id) q) ∙ inode-placed image v id 0 i e .parts .named in
+          ap (λ (k : ℕ). inodeOf image v k 0 .answer >>= λ j. got (inodeShown (v .reader) image j)) n ∙ ap (λ (a : Answer Inode). a >>= λ j. got (inodeShown (v .reader) image j)) e ∙ ap got q
+      of (no w) e h = absurd (let z : _≡_ {A = ℕ} 0 1 = cc in omega arith)
+
+  known-place : (es : List EntryShown) (k : ℕ) → Known (place (viewOf image v) es k)
+  unfolding place
+  known-place [] k h = absurd (let z : _≡_ {A = ℕ} 0 1 = cc in omega arith)
+  known-place (e ∷ es) zero h = known-inode e.id h
+  known-place (e ∷ es) (suc k) h = known-place es k h
+
+  known-onward : (m : Met) (k : ℕ) → Known (onward (viewOf image v) m k)
+  unfolding onward
+  known-onward (here g) k h = of (entriesAnswer image v g.id) h
+    where
+      of : (a : Answer (List EntryShown)) → Known (placeIn (viewOf image v) a k)
+      of (got es) i = known-place es k i
+      of (no e) i = absurd (let z : _≡_ {A = ℕ} 0 1 = cc in omega arith)
+  known-onward nowhere k h = absurd (let z : _≡_ {A = ℕ} 0 1 = cc in omega arith)
+  known-onward (refused e) k h = absurd (let z : _≡_ {A = ℕ} 0 1 = cc in omega arith)
+
+  known-follow : (m : Met) (c : List ℕ) → Known m → Known (follow (viewOf image v) m c)
+  unfolding follow
+  known-follow m [] n h = n h
+  known-follow m (k ∷ c) n h = known-follow (onward (viewOf image v) m k) c (known-onward m k) h
+
+abbrev Knows : Answer View → Type 0
+Knows x = (v : View) (c : List ℕ) (f : InodeShown) → x ≡ got v → chain v c ≡ here f → v.inode f.id ≡ got f
+
+knows : (image : List ℕ) (index : ℕ) → Knows (viewAt image index)
+unfolding viewAt
+knows image index v c f e h = of (volumeOfImage image index .answer) e
+  where
+    of : (a : Answer Volume) → (a >>= λ w. got (viewOf image w)) ≡ got v → v.inode f.id ≡ got f
+    of (got w) k =
+        let q : viewOf image w ≡ v = cc in
+        ap (λ (x : View). x.inode f.id) (sym q) ∙ known-follow image w f (met (inodeAnswer image w 2)) c (known-inode image w f 2) (ap (λ (x : View). chain x c) q ∙ h)
+    of (no w) k = absurd (let z : _≡_ {A = ℕ} 0 1 = cc in omega arith)
+
+-- the same link
+module _ (c : List ℕ) (f : InodeShown) where
+  link-agree : (v w : View) (m n : Met) → m ≡ here f → (n ≡ here f → w.inode f.id ≡ got f) → v.inode f.id ≡ got f → Agree v w m n → linkShown v f.id ≡ linkShown w f.id
+  link-agree v w m n h k i (past p q) = absurd (let z : _≡_ {A = ℕ} 0 1 = cc in omega arith)
+  link-agree v w m n h k i (on x p q e a r) =
+      let y : x ≡ f = cc in
+      let j : w.inode f.id ≡ got f = k (q ∙ ap here y) in
+      let b : v.attributes f.id ≡ w.attributes f.id = rw y at a in
+      rw (i, j, b)
+
+  link-same : (x y : Answer View) → Knows x → Knows y → SameVolumes x y → chainOn x c ≡ here f → (x >>= λ v. linkShown v f.id) ≡ (y >>= λ v. linkShown v f.id)
+  link-same (got v) (got w) k l s h = link-agree v w (chain v c) (chain w c) h (λ q. l w c f refl q) (k v c f refl h) (s .chains c)
+  link-same (got v) (no e) k l s h = absurd s
+  link-same (no e) (got w) k l s h = absurd s
+  link-same (no d) (no e) k l s h = absurd s
+
 -- where two listings are equal, the calls answer alike
 pub record CallsAlike (a b : List ℕ) (i j : ℕ) : Type 0 where
   pub lookups : (path : List ℕ) → lookupText a i path ≡ lookupText b j path
   pub reads : (c : List ℕ) (f : InodeShown) → chainOn (viewAt a i) c ≡ here f → (off len : ℕ) → readText a i f.id off len ≡ readText b j f.id off len
   pub entries : (c : List ℕ) (f : InodeShown) → chainOn (viewAt a i) c ≡ here f → (k : ℕ) → entryText a i f.id k ≡ entryText b j f.id k
   pub attributes : (c : List ℕ) (f : InodeShown) → chainOn (viewAt a i) c ≡ here f → (k : ℕ) → attributeText a i f.id k ≡ attributeText b j f.id k
+  pub directories : (c : List ℕ) (f : InodeShown) → chainOn (viewAt a i) c ≡ here f → (k room : ℕ) → entriesText a i f.id k room ≡ entriesText b j f.id k room
+  pub bytes : (c : List ℕ) (f : InodeShown) → chainOn (viewAt a i) c ≡ here f → (k : ℕ) → xattrBytes a i f.id k ≡ xattrBytes b j f.id k
+  pub links : (c : List ℕ) (f : InodeShown) → chainOn (viewAt a i) c ≡ here f → linkText a i f.id ≡ linkText b j f.id
 
 pub calls-alike : (a b : List ℕ) (i j m n : ℕ) (t : List ℕ) → listingOf a i m ≡ got t → listingOf b j n ≡ got t → CallsAlike a b i j
 calls-alike a b i j m n t p q =
@@ -163,4 +128,9 @@ calls-alike a b i j m n t p q =
           (of-same c f (λ v. v.entries f.id >>= λ es. got (entryLineAt (elementAt k es))) (λ v w e l r. rw e) (viewAt a i) (viewAt b j) s h);
       attributes = λ c f h k. rw (attribute-view a i f.id k, attribute-view b j f.id k)
           (of-same c f (λ v. v.attributes f.id >>= λ l. attributeLineAt (elementAt k l)) (λ v w e l r. rw l) (viewAt a i) (viewAt b j) s h);
+      directories = λ c f h k room. rw (entries-view a i f.id k room, entries-view b j f.id k room)
+          (of-same c f (λ v. v.entries f.id >>= λ es. fittingSome room (map (λ e. entryLine e []) (drop k es))) (λ v w e l r. rw e) (viewAt a i) (viewAt b j) s h);
+      bytes = λ c f h k. rw (bytes-view a i f.id k, bytes-view b j f.id k)
+          (of-same c f (λ v. v.attributes f.id >>= λ l. attributeBytesAt (elementAt k l)) (λ v w e l r. rw l) (viewAt a i) (viewAt b j) s h);
+      links = λ c f h. rw (link-view a i f.id, link-view b j f.id) (link-same c f (viewAt a i) (viewAt b j) (knows a i) (knows b j) s h);
     }

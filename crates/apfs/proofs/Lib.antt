@@ -1,4 +1,5 @@
 pub mod Results
 pub mod Listings
+pub mod Views
 pub mod Alike
 pub mod Opened

@@ -7,17 +7,20 @@ use container_line::open_line;
 use element_lines::entry_text;
 use element_lines::extent_text;
 use element_lines::lookup_text;
+use entry_lines::entries_text;
 use listing::list_text;
 use reads::link_text;
 use reads::read_text;
+use reads::xattr_bytes;
 ghost use mathlib.Core.Path.{_≡_};
 ghost use lib.ListN.{length};
 ghost use Rattle.demand.specs.Demand.{listingOf};
 ghost use Rattle.listing.specs.Listed.{listedOf};
 ghost use Rattle.container_line.specs.Container.{openText};
 ghost use Rattle.element_lines.specs.Elements.{lookupText, entryText, extentText};
+ghost use Rattle.entry_lines.specs.Entries.{entriesText};
 ghost use Rattle.attribute_lines.specs.Attributes.{attributeText};
-ghost use Rattle.reads.specs.Reads.{readText, linkText};
+ghost use Rattle.reads.specs.Reads.{readText, linkText, xattrBytes};
 ghost use Rattle.apfs.specs.Call.{number, resultOf, bufferOf};
 
 // The line of a container.
@@ -52,12 +55,40 @@ pub extern "C" fn apfs_entry(image: &[u8], volume: u64, id: u64, place: u64, out
     result(entry_text(image, volume, id, place, out))
 }
 
+// The lines of a directory's entries from a place on, as many as fit.
+#[no_mangle]
+pub extern "C" fn apfs_entries(
+    image: &[u8],
+    volume: u64,
+    id: u64,
+    place: u64,
+    out: &mut [u8],
+) -> i64
+    ensures { λ r. ⌜ (r ≡ resultOf (entriesText (now (image .entry)) volume id place (length (now (out .entry)))) (now (out .entry))) × (now (out .exit) ≡ bufferOf (entriesText (now (image .entry)) volume id place (length (now (out .entry)))) (now (out .entry))) ⌝ }
+{
+    result(entries_text(image, volume, id, place, out))
+}
+
 // The line of an attribute with its contents, by place.
 #[no_mangle]
 pub extern "C" fn apfs_xattr(image: &[u8], volume: u64, id: u64, place: u64, out: &mut [u8]) -> i64
     ensures { λ r. ⌜ (r ≡ resultOf (attributeText (now (image .entry)) volume id place) (now (out .entry))) × (now (out .exit) ≡ bufferOf (attributeText (now (image .entry)) volume id place) (now (out .entry))) ⌝ }
 {
     result(attribute_text(image, volume, id, place, out))
+}
+
+// The bytes of an attribute, by place.
+#[no_mangle]
+pub extern "C" fn apfs_xattr_bytes(
+    image: &[u8],
+    volume: u64,
+    id: u64,
+    place: u64,
+    out: &mut [u8],
+) -> i64
+    ensures { λ r. ⌜ (r ≡ resultOf (xattrBytes (now (image .entry)) volume id place) (now (out .entry))) × (now (out .exit) ≡ bufferOf (xattrBytes (now (image .entry)) volume id place) (now (out .entry))) ⌝ }
+{
+    result(xattr_bytes(image, volume, id, place, out))
 }
 
 // The text of a symbolic link.

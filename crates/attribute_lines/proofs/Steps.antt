@@ -2,7 +2,6 @@
 use Prim.Native.Nat.{ℕ}
 use mathlib.Core.Path.{_≡_, sym, ap, _∙_}
 use mathlib.Core.List.{List, []}
-use mathlib.Core.Option.{Option, none, some}
 use Rattle.error.specs.Answer.{got}
 use Rattle.error.specs.declared.Refusal.{Refusal}
 use Rattle.bytes.specs.declared.Span.{Span}
@@ -14,9 +13,6 @@ use Rattle.records.specs.declared.attribute.Attribute.{Attribute}
 use Rattle.records.specs.declared.attribute.AttributeData.{AttributeData}
 use Rattle.records.specs.declared.attribute.AttributeData.the-variants.{Embedded, Stream}
 use Rattle.records.specs.declared.attribute.StreamData.{StreamData}
-use Rattle.lists.specs.Told.{attributeFound}
-use Rattle.lists.specs.declared.attributes.AttributeFound.{AttributeFound}
-use Rattle.lists.specs.declared.attributes.AttributeAt.{AttributeAt}
 use Rattle.extents.specs.Ruling.{ruled}
 use Rattle.extents.specs.declared.verdict.Ruling.{Ruling}
 use Rattle.streams.specs.Streams.{settledTold, settledOf, streamOf}
@@ -29,16 +25,6 @@ use Rattle.lines.specs.Lines.{attributeLine}
 use Rattle.calls.specs.Filled.{Filled, filled, filledBy, filledAt}
 use Rattle.calls.proofs.Steps as call
 use Rattle.attribute_lines.specs.Attributes.{streamedOf, attributeOf}
-
-module _ (f : Option Attribute → ℕ → Counted (List ℕ)) (b : List ℕ) (r : AttributeFound) (c : Counted (Option Attribute)) (p : attributeFound r ≡ c) where
-  pub attribute-got : (x : Attribute) (z : Filled) → r .attribute ≡ AttributeAt.At x → z ≡ filledBy (f (some x) (r .nodes) .answer) b → z ≡ filledBy (onto c f .answer) b
-  attribute-got x z q h = rw (← p, q) h
-
-  pub attribute-past : (z : Filled) → r .attribute ≡ AttributeAt.Nothing → z ≡ filledBy (f none (r .nodes) .answer) b → z ≡ filledBy (onto c f .answer) b
-  attribute-past z q h = rw (← p, q) h
-
-  pub attribute-refused : (w : Refusal) → r .attribute ≡ AttributeAt.No w → filledAt (No w) b ≡ filledBy (onto c f .answer) b
-  attribute-refused w q = rw (← p, q)
 
 module _ (image : List ℕ) (v : Volume) (a : Attribute) (b : List ℕ) (s : ℕ) where
   -- what the call leaves where c are the contents
@@ -71,4 +57,4 @@ module _ (image : List ℕ) (v : Volume) (a : Attribute) (b : List ℕ) (s : ℕ
     unfolding streamedOf
     settled-refused w q = ap (λ (x : Ruling). left (by x)) (sym q) ∙ ap left contents
 
-pub ruleset onward = (call.onward, attribute-got, attribute-past, attribute-refused, embedded-got, streamed-got, settled-got, settled-refused)
+pub ruleset onward = (call.elements, embedded-got, streamed-got, settled-got, settled-refused)

@@ -2,6 +2,7 @@
 use Prim.Native.Nat.{ℕ}
 use mathlib.Core.Path.{_≡_, sym, ap, _∙_}
 use mathlib.Core.List.{List}
+use mathlib.Core.Option.{Option, none, some}
 use borrow.Author.Needs.{needs}
 use Rattle.error.specs.declared.Refusal.{Refusal}
 use Rattle.bytes.specs.Number.{told}
@@ -14,7 +15,16 @@ use Rattle.volume.specs.declared.VolumeOpened.{VolumeOpened}
 use Rattle.volume.specs.declared.VolumeOpening.{VolumeOpening}
 use Rattle.inode_record.specs.declared.inode.Inode.{Inode}
 use Rattle.inode_record.specs.declared.inode.InodeRead.{InodeRead}
-use Rattle.lists.specs.Told.{inodeFound}
+use Rattle.records.specs.declared.directory.Entry.{Entry}
+use Rattle.records.specs.declared.attribute.Attribute.{Attribute}
+use Rattle.records.specs.declared.extent.Extent.{Extent}
+use Rattle.lists.specs.Told.{inodeFound, entryFound, attributeFound, extentFound}
+use Rattle.lists.specs.declared.entries.EntryFound.{EntryFound}
+use Rattle.lists.specs.declared.entries.EntryAt.{EntryAt}
+use Rattle.lists.specs.declared.attributes.AttributeFound.{AttributeFound}
+use Rattle.lists.specs.declared.attributes.AttributeAt.{AttributeAt}
+use Rattle.lists.specs.declared.extents.ExtentFound.{ExtentFound}
+use Rattle.lists.specs.declared.extents.ExtentAt.{ExtentAt}
 use Rattle.lists.specs.declared.inodes.InodeFound.{InodeFound}
 use Rattle.calls.specs.Filled.{Filled, filledBy, filledAt, Answered, answered}
 use Rattle.calls.proofs.Filling.{filled-nothing}
@@ -33,6 +43,37 @@ module _ (f : Inode → ℕ → Counted (List ℕ)) (b : List ℕ) (r : InodeFou
   pub inode-refused : (w : Refusal) → r .inode ≡ InodeRead.No w → filledAt (No w) b ≡ filledBy (onto c f .answer) b
   inode-refused w q = rw (← p, q)
 
+-- an element of a list
+module _ (f : Option Entry → ℕ → Counted (List ℕ)) (b : List ℕ) (r : EntryFound) (c : Counted (Option Entry)) (p : entryFound r ≡ c) where
+  pub entry-got : (x : Entry) (z : Filled) → r .entry ≡ EntryAt.At x → z ≡ filledBy (f (some x) (r .nodes) .answer) b → z ≡ filledBy (onto c f .answer) b
+  entry-got x z q h = rw (← p, q) h
+
+  pub entry-past : (z : Filled) → r .entry ≡ EntryAt.Nothing → z ≡ filledBy (f none (r .nodes) .answer) b → z ≡ filledBy (onto c f .answer) b
+  entry-past z q h = rw (← p, q) h
+
+  pub entry-refused : (w : Refusal) → r .entry ≡ EntryAt.No w → filledAt (No w) b ≡ filledBy (onto c f .answer) b
+  entry-refused w q = rw (← p, q)
+
+module _ (f : Option Extent → ℕ → Counted (List ℕ)) (b : List ℕ) (r : ExtentFound) (c : Counted (Option Extent)) (p : extentFound r ≡ c) where
+  pub extent-got : (x : Extent) (z : Filled) → r .extent ≡ ExtentAt.At x → z ≡ filledBy (f (some x) (r .nodes) .answer) b → z ≡ filledBy (onto c f .answer) b
+  extent-got x z q h = rw (← p, q) h
+
+  pub extent-past : (z : Filled) → r .extent ≡ ExtentAt.Nothing → z ≡ filledBy (f none (r .nodes) .answer) b → z ≡ filledBy (onto c f .answer) b
+  extent-past z q h = rw (← p, q) h
+
+  pub extent-refused : (w : Refusal) → r .extent ≡ ExtentAt.No w → filledAt (No w) b ≡ filledBy (onto c f .answer) b
+  extent-refused w q = rw (← p, q)
+
+module _ (f : Option Attribute → ℕ → Counted (List ℕ)) (b : List ℕ) (r : AttributeFound) (c : Counted (Option Attribute)) (p : attributeFound r ≡ c) where
+  pub attribute-got : (x : Attribute) (z : Filled) → r .attribute ≡ AttributeAt.At x → z ≡ filledBy (f (some x) (r .nodes) .answer) b → z ≡ filledBy (onto c f .answer) b
+  attribute-got x z q h = rw (← p, q) h
+
+  pub attribute-past : (z : Filled) → r .attribute ≡ AttributeAt.Nothing → z ≡ filledBy (f none (r .nodes) .answer) b → z ≡ filledBy (onto c f .answer) b
+  attribute-past z q h = rw (← p, q) h
+
+  pub attribute-refused : (w : Refusal) → r .attribute ≡ AttributeAt.No w → filledAt (No w) b ≡ filledBy (onto c f .answer) b
+  attribute-refused w q = rw (← p, q)
+
 -- the count of an answer, as a position
 module _ (c : Counted (List ℕ)) (out last : List ℕ) (k : Number) (n : ℕ) (p : record { nodes = n; result = record { answer = told k; buffer = last } } ≡ answered c out) where
   pub count-got : (m : ℕ) → k ≡ Number.Got m → filledAt (At m) last ≡ filledBy (c .answer) out
@@ -44,3 +85,5 @@ module _ (c : Counted (List ℕ)) (out last : List ℕ) (k : Number) (n : ℕ) (
 pub ruleset counts = (needs, count-got, count-no)
 
 pub ruleset onward = (needs, filled-nothing, volume-got, volume-refused, inode-got, inode-refused)
+
+pub ruleset elements = (onward, entry-got, entry-past, entry-refused, attribute-got, attribute-past, attribute-refused, extent-got, extent-past, extent-refused)

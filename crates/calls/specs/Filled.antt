@@ -5,9 +5,11 @@ use mathlib.Core.List.{List, _++_}
 use lib.ListN.{length, drop}
 use Rattle.error.specs.Answer.{Answer, got, no, ifLe}
 use Rattle.error.specs.declared.Refusal.the-variants.{BufferTooShort}
+use Rattle.bytes.specs.Number.{told}
 use Rattle.lookup.specs.Counted.{Counted}
 use Rattle.text.specs.declared.Position.{Position}
 use Rattle.text.specs.declared.Position.the-variants.{At, No}
+use Rattle.calls.specs.declared.Written.{Written}
 
 -- how many bytes were written, or the refusal; and the buffer
 pub record Filled : Type 0 where
@@ -41,3 +43,7 @@ pub record Answered : Type 0 where
 
 abbrev pub answered : Counted (List ℕ) → List ℕ → Answered
 answered c b = record { nodes = c .nodes; result = filledBy (c .answer) b }
+
+-- what such a call says, and the buffer as it leaves it
+abbrev pub writtenTold : Written → List ℕ → Answered
+writtenTold r b = record { nodes = r .nodes; result = record { answer = told (r .count); buffer = b } }

@@ -1,16 +1,15 @@
 -- The line of an inode by its path, and of an entry and an extent by their place, in the listing's notation: document 01, "The listing (added)".
 -- Of a list, "past its end is "none"": nothing is written.
-use Prim.Native.Nat.{ℕ, _/_, _%_}
+use Prim.Native.Nat.{ℕ}
 use mathlib.Core.List.{List, []}
 use mathlib.Core.Option.{Option, none, some}
-use Rattle.error.specs.Answer.{Answer, got, no, ifEq}
-use Rattle.error.specs.declared.Refusal.the-variants.{Unsupported}
+use Rattle.error.specs.Answer.{Answer, got}
 use Rattle.lookup.specs.Counted.{Counted, after, onto}
 use Rattle.volume.specs.declared.Volume.{Volume}
 use Rattle.records.specs.declared.directory.Entry.{Entry}
 use Rattle.records.specs.declared.extent.Extent.{Extent}
 use Rattle.inode_record.specs.declared.inode.Inode.{Inode}
-use Rattle.lists.specs.Lists.{placed, entriesOf, extentsOf, inodeOf}
+use Rattle.lists.specs.Lists.{placed, entriesOf, fileExtents, inodeOf}
 use Rattle.paths.specs.Lookup.{lookupPath}
 use Rattle.lines.specs.Shown.{inodeShown, entryShown}
 use Rattle.lines.specs.Lines.{nodeLine, entryLine, extentLine}
@@ -38,11 +37,9 @@ abbrev pub extentShow : Option Extent → List ℕ
 extentShow none = []
 extentShow (some e) = extentLine e []
 
--- of an inode that was read; compressed is 3 (fs.rs, `file_extents`; UF_COMPRESSED is 0x20)
+-- of an inode that was read (fs.rs, `file_extents`)
 unfoldable pub extentOf : List ℕ → Volume → Inode → ℕ → ℕ → Counted (List ℕ)
-extentOf image v i place s =
-    ifEq (i .owner .«bsd_flags» / 32 % 2) 1 (after s (no Unsupported))
-    (onto (placed place (extentsOf image v (i .ids .«private_id») s)) λ o t. after t (got (extentShow o)))
+extentOf image v i place s = onto (fileExtents image v i place s) λ o t. after t (got (extentShow o))
 
 unfoldable pub extentOn : List ℕ → Volume → ℕ → ℕ → ℕ → Counted (List ℕ)
 extentOn image v id place s = onto (inodeOf image v id s) λ i t. extentOf image v i place t

@@ -1,10 +1,9 @@
 // The line of a file's extent, by place.
-use error::Refusal;
 use inode_record::Inode;
 use inode_record::InodeRead;
 use lines::put_extent_line;
 use lists::ExtentAt;
-use lists::extent_at;
+use lists::file_extents;
 use lists::inode;
 use records::Extent;
 use text::Position;
@@ -31,12 +30,7 @@ fn show_extent(e: Extent, out: &mut [u8]) -> Position
 fn extent_of(image: &[u8], v: Volume, i: Inode, place: u64, nodes: u64, out: &mut [u8]) -> Position
     ensures { λ r. ⌜ filledAt r (now (out .exit)) ≡ filledBy (extentOf (now (image .entry)) v i place nodes .answer) (now (out .entry)) ⌝ }
 {
-    let owner = i.owner;
-    let ids = i.ids;
-    if owner.bsd_flags / 32 % 2 == 1 {
-        return Position::No(Refusal::Unsupported);
-    }
-    let found = extent_at(image, v, ids.private_id, place, nodes);
+    let found = file_extents(image, v, i, place, nodes);
     let extent = found.extent;
     match extent {
         ExtentAt::Nothing => Position::At(0),

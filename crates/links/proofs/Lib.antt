@@ -1,4 +1,5 @@
 pub mod Names
+pub mod Feeding
 pub mod Pouring
 pub mod Targets
 pub mod Answers

@@ -25,7 +25,8 @@ use Rattle.lists.specs.declared.attributes.AttributeAt.{AttributeAt}
 use Rattle.lists.specs.declared.attributes.AttributeFound.{AttributeFound}
 use Rattle.lists.proofs.Reading.{reading, list-start, list-end, list-next}
 use Rattle.lists.proofs.Turns as list-turns
-use Rattle.links.specs.Named.{hasName, named, keepNamed, keptNamed, attributeNamed}
+use Rattle.links.specs.Named.{hasName, named, attributeNamed}
+use Rattle.links.specs.Inner.{keepNamed, keptNamed}
 
 pub name-is : (r : Reader) (b name n : List ℕ) (a : Attribute) (d : Bool) → n ≡ attributeName r b a → d ≡ sameBytes (lossy n) name → d ≡ hasName r b name a
 unfolding hasName

@@ -1,13 +1,12 @@
 -- The contents of an attribute, by their form, and the text that is written of them.
 use Prim.Native.Nat.{ℕ}
 use mathlib.Core.Path.{_≡_, refl, _∙_}
+use mathlib.Core.Bool.{Bool}
 use mathlib.Core.List.{List, [], _++_, append-nil}
 use borrow.Author.Needs.{needs}
 use Rattle.error.specs.Answer.{got}
 use Rattle.bytes.specs.declared.Span.{Span}
 use Rattle.text.specs.Output.{Output, at, puts}
-use Rattle.text.specs.declared.Position.the-variants.{At}
-use Rattle.feed.specs.Fed.{fed, begun}
 use Rattle.feed.specs.declared.feed.Feed.{Feed}
 use Rattle.lookup.specs.Counted.{Counted, after, onto}
 use Rattle.btree.specs.declared.entries.Place.{Place}
@@ -20,8 +19,8 @@ use Rattle.extents.specs.Verdict.{fine}
 use Rattle.streams.specs.Streams.{settledOf}
 use Rattle.streams.specs.Inner.{streamBytes}
 use Rattle.streams.proofs.Contents.{stream-settled}
-use Rattle.links.specs.Link.{contentsBy, textOf}
-use Rattle.links.specs.Settled.{settledBy, bytesBy}
+use Rattle.links.specs.Link.{contentsBy}
+use Rattle.links.specs.Inner.{settledBy, bytesBy, fedAs, readAs}
 
 module _ (b : List ℕ) (v : Volume) (d : AttributeData) (s : ℕ) where
   pub settled-embedded : (x : Span) → d ≡ Embedded x → after s fine ≡ settledBy b v d s
@@ -32,12 +31,12 @@ module _ (b : List ℕ) (v : Volume) (d : AttributeData) (s : ℕ) where
   unfolding settledBy
   settled-stream x z e h = rw e h
 
-  module _ (p : Place) (room : ℕ) (f r : Feed) (o c xs : List ℕ) where
-    pub pushed-embedded : (x : Span) (y : List ℕ) → d ≡ Embedded x → y ≡ attributeBytes (v .reader) b p x → ((ys : List ℕ) → fed room r c ys ≡ fed room f o (y ++ ys)) → fed room r c xs ≡ fed room f o (bytesBy b v p d s ++ xs)
+  module _ (p : Place) (raw : Bool) (room : ℕ) (f r : Feed) (o c xs : List ℕ) where
+    pub pushed-embedded : (x : Span) (y : List ℕ) → d ≡ Embedded x → y ≡ attributeBytes (v .reader) b p x → ((ys : List ℕ) → fedAs raw room r c ys ≡ fedAs raw room f o (y ++ ys)) → fedAs raw room r c xs ≡ fedAs raw room f o (bytesBy b v p d s ++ xs)
     unfolding bytesBy
     pushed-embedded x y e h k = rw (e, ← h) (k xs)
 
-    pub pushed-stream : (x : StreamData) → d ≡ Stream x → ((ys : List ℕ) → fed room r c ys ≡ fed room f o (streamBytes b v (x .object) (x .size) s ++ ys)) → fed room r c xs ≡ fed room f o (bytesBy b v p d s ++ xs)
+    pub pushed-stream : (x : StreamData) → d ≡ Stream x → ((ys : List ℕ) → fedAs raw room r c ys ≡ fedAs raw room f o (streamBytes b v (x .object) (x .size) s ++ ys)) → fedAs raw room r c xs ≡ fedAs raw room f o (bytesBy b v p d s ++ xs)
     unfolding bytesBy
     pushed-stream x e k = rw e (k xs)
 
@@ -47,9 +46,9 @@ unfolding contentsBy settledBy bytesBy
 contents-settled b v p (Embedded x) s = refl
 contents-settled b v p (Stream d) s = stream-settled b v (d .object) (d .size) s
 
-pub text-put : (room : ℕ) (f g : Feed) (o c x : List ℕ) (z : Output) → ((r : ℕ) (b xs : List ℕ) → fed r f b xs ≡ begun r (At 0) b xs) → ((ys : List ℕ) → fed room g c ys ≡ fed room f o (x ++ ys)) → z ≡ fed room g c []
-    → z ≡ puts room (textOf x) (at o 0)
-unfolding begun textOf
-text-put room f g o c x z h k e = e ∙ k [] ∙ h room o (x ++ []) ∙ rw append-nil
+-- all contents, from the buffer's start on
+pub contents-put : (raw : Bool) (room : ℕ) (f g : Feed) (o c x : List ℕ) (z : Output) → ((r : ℕ) (b xs : List ℕ) → fedAs raw r f b xs ≡ puts r (readAs raw xs) (at b 0))
+    → ((ys : List ℕ) → fedAs raw room g c ys ≡ fedAs raw room f o (x ++ ys)) → z ≡ fedAs raw room g c [] → z ≡ puts room (readAs raw x) (at o 0)
+contents-put raw room f g o c x z h k e = e ∙ k [] ∙ h room o (x ++ []) ∙ rw append-nil
 
-pub ruleset targets = (needs, settled-embedded, settled-stream, pushed-embedded, pushed-stream, text-put)
+pub ruleset targets = (needs, settled-embedded, settled-stream, pushed-embedded, pushed-stream)

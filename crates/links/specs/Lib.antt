@@ -1,3 +1,3 @@
 pub mod Named
 pub mod Link
-pub mod Settled
+pub mod Inner

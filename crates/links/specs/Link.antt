@@ -1,11 +1,9 @@
--- The text of a symbolic link, and how it is answered into a buffer. fs.rs, `read_link` and `read_xattr`; document 01, "Records" and
--- "Answers other than success".
+-- The contents of an attribute, and the text of a symbolic link. fs.rs, `read_xattr` and `read_link`; document 01, "Records".
 use Prim.Native.Nat.{ℕ}
 use mathlib.Core.List.{List, []}
 use mathlib.Core.Option.{Option, none, some}
 use Rattle.error.specs.Answer.{got, no}
 use Rattle.error.specs.declared.Refusal.the-variants.{Corrupt}
-use Rattle.bytes.specs.Number.{told}
 use Rattle.bytes.specs.Part.{upToZero}
 use Rattle.utf8.specs.Text.{lossy}
 use Rattle.text.specs.Words.{ascii}
@@ -18,9 +16,7 @@ use Rattle.records.specs.declared.attribute.AttributeData.{AttributeData}
 use Rattle.records.specs.declared.attribute.AttributeData.the-variants.{Embedded, Stream}
 use Rattle.inode_record.specs.declared.inode.Inode.{Inode}
 use Rattle.streams.specs.Streams.{streamOf}
-use Rattle.calls.specs.Filled.{Answered}
 use Rattle.links.specs.Named.{attributeNamed}
-use Rattle.links.specs.declared.link.LinkRead.{LinkRead}
 
 -- document 01, "Records": "Attribute flag 0x1 means a stream of object id and size, else the bytes follow"; fs.rs, `read_xattr`
 unfoldable pub contentsBy : List ℕ → Volume → Place → AttributeData → ℕ → Counted (List ℕ)
@@ -49,7 +45,3 @@ symlinkName = ascii "com.apple.fs.symlink" []
 -- fs.rs, `read_link`: the first attribute of that name, and 2 where there is none
 unfoldable pub linkOf : List ℕ → Volume → Inode → ℕ → Counted (List ℕ)
 linkOf b v inode s = onto (attributeNamed b v (inode .id) symlinkName s) λ o t. targetIn b v o t
-
--- what the call says
-abbrev pub linkTold : LinkRead → List ℕ → Answered
-linkTold r b = record { nodes = r .nodes; result = record { answer = told (r .count); buffer = b } }

@@ -3,7 +3,7 @@ use Prim.Native.Nat.{ℕ}
 use mathlib.Core.Bool.{Bool}
 use mathlib.Core.List.{List, [], _∷_}
 use mathlib.Core.Option.{Option, none, some}
-use Rattle.error.specs.Answer.{Answer, got, _>>=_, pick}
+use Rattle.error.specs.Answer.{got, pick}
 use Rattle.utf8.specs.Text.{lossy, sameBytes}
 use Rattle.obj.specs.declared.reader.Reader.{Reader}
 use Rattle.lookup.specs.Counted.{Counted, after, onto}
@@ -20,14 +20,6 @@ hasName r b name a = sameBytes (lossy (attributeName r b a)) name
 unfoldable pub named : Reader → List ℕ → List ℕ → List Attribute → Option Attribute
 named r b name [] = none
 named r b name (a ∷ xs) = pick (hasName r b name a) (some a) (named r b name xs)
-
--- what is kept of a list once a is passed
-unfoldable pub keepNamed : Reader → List ℕ → List ℕ → Option Attribute → Attribute → Option Attribute
-keepNamed r b name none a = pick (hasName r b name a) (some a) none
-keepNamed r b name (some x) a = some x
-
-abbrev pub keptNamed : Reader → List ℕ → List ℕ → Answer (Option Attribute) → Attribute → Answer (Option Attribute)
-keptNamed r b name o a = o >>= λ x. got (keepNamed r b name x a)
 
 -- all attributes of an id are read, then the first of a name is taken
 unfoldable pub attributeNamed : List ℕ → Volume → ℕ → List ℕ → ℕ → Counted (Option Attribute)

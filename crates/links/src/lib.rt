@@ -1,9 +1,10 @@
-// Attributes by name, and the text of symbolic links (fs.rs, `xattr`, `read_link`).
+// Attributes by name, their bytes, and the text of symbolic links (fs.rs, `xattr`, `read_xattr`, `read_link`).
 mod link;
 mod named;
 mod pour;
+mod raw;
 mod target;
 
-pub use link::LinkRead;
 pub use link::read_link;
+pub use link::read_xattr;
 pub use named::attribute_named;

@@ -13,7 +13,8 @@ use utf8::reads_as;
 use volume::Volume;
 ghost use mathlib.Core.Path.{_≡_};
 ghost use Rattle.lists.specs.Told.{attributePlaced, attributeFound};
-ghost use Rattle.links.specs.Named.{hasName, keptNamed, attributeNamed};
+ghost use Rattle.links.specs.Named.{hasName, attributeNamed};
+ghost use Rattle.links.specs.Inner.{keptNamed};
 
 fn found(x: AttributeAt, nodes: u64) -> AttributeFound
     ensures { λ r. ⌜ r ≡ record { attribute = x; nodes = nodes } ⌝ }

@@ -1,4 +1,6 @@
 // The bytes of a stream, fed an extent after the other.
+use crate::raw::feed_all;
+use crate::raw::feed_zeros;
 use btree::Found;
 use bytes::Span;
 use bytes::part;
@@ -6,8 +8,6 @@ use cursor::first;
 use cursor::next;
 use extents::smaller;
 use feed::Feed;
-use feed::push_all;
-use feed::push_zeros;
 use lists::search;
 use obj::Reader;
 use records::Extent;
@@ -21,36 +21,40 @@ use volume::Volume;
 ghost use mathlib.Core.Path.{_≡_};
 ghost use mathlib.Core.List.{List, _++_};
 ghost use Prim.Native.Nat.{ℕ};
-ghost use Rattle.feed.specs.Fed.{fed};
 ghost use Rattle.extents.specs.Extents.{diskOf};
-ghost use Rattle.streams.specs.Inner.{taken, stepBytes, streamBytes};
+ghost use Rattle.streams.specs.Inner.{taken};
+ghost use Rattle.streams.specs.Inner.{stepBytes};
+ghost use Rattle.streams.specs.Inner.{streamBytes};
+ghost use Rattle.links.specs.Inner.{fedAs};
 
 // The first n bytes of an extent.
 fn push_taken(
     out: &mut [u8],
     room: usize,
+    raw: bool,
     f: Feed,
     image: &[u8],
     reader: Reader,
     e: Extent,
     n: u64,
 ) -> Feed
-    ensures { λ r. ⌜ ((xs : List ℕ) → fed room r (now (out .exit)) xs ≡ fed room f (now (out .entry)) (taken (diskOf reader (now (image .entry))) e n ++ xs)) ⌝ }
+    ensures { λ r. ⌜ ((xs : List ℕ) → fedAs raw room r (now (out .exit)) xs ≡ fedAs raw room f (now (out .entry)) (taken (diskOf reader (now (image .entry))) e n ++ xs)) ⌝ }
 {
     if e.phys == 0 {
-        return push_zeros(out, room, f, n);
+        return feed_zeros(out, room, raw, f, n);
     }
     let span = Span {
         start: begins(image, reader, e.phys),
         len: n as usize,
     };
-    push_all(out, room, f, part(image, span))
+    feed_all(out, room, raw, f, part(image, span))
 }
 
 // The gap before an extent, and its bytes.
 fn push_step(
     out: &mut [u8],
     room: usize,
+    raw: bool,
     f: Feed,
     image: &[u8],
     reader: Reader,
@@ -58,21 +62,22 @@ fn push_step(
     pos: u64,
     e: Extent,
 ) -> Feed
-    ensures { λ r. ⌜ ((xs : List ℕ) → fed room r (now (out .exit)) xs ≡ fed room f (now (out .entry)) (stepBytes (diskOf reader (now (image .entry))) size pos e ++ xs)) ⌝ }
+    ensures { λ r. ⌜ ((xs : List ℕ) → fedAs raw room r (now (out .exit)) xs ≡ fedAs raw room f (now (out .entry)) (stepBytes (diskOf reader (now (image .entry))) size pos e ++ xs)) ⌝ }
 {
     if size <= pos {
         return f;
     }
     let a = smaller(e.logical, size);
     let gap = less(a, pos);
-    let g = push_zeros(out, room, f, gap);
-    push_taken(out, room, g, image, reader, e, wanted(size, e))
+    let g = feed_zeros(out, room, raw, f, gap);
+    push_taken(out, room, raw, g, image, reader, e, wanted(size, e))
 }
 
 // All bytes of a stream.
 pub fn push_stream(
     out: &mut [u8],
     room: usize,
+    raw: bool,
     f: Feed,
     image: &[u8],
     v: Volume,
@@ -80,7 +85,7 @@ pub fn push_stream(
     size: u64,
     nodes: u64,
 ) -> Feed
-    ensures { λ r. ⌜ ((xs : List ℕ) → fed room r (now (out .exit)) xs ≡ fed room f (now (out .entry)) (streamBytes (now (image .entry)) v object size nodes ++ xs)) ⌝ }
+    ensures { λ r. ⌜ ((xs : List ℕ) → fedAs raw room r (now (out .exit)) xs ≡ fedAs raw room f (now (out .entry)) (streamBytes (now (image .entry)) v object size nodes ++ xs)) ⌝ }
 {
     let q = search(v, object, 8);
     let reader = v.reader;
@@ -90,12 +95,12 @@ pub fn push_stream(
     loop {
         let at = s.found;
         match at {
-            Found::End => return push_zeros(out, room, g, less(size, pos)),
+            Found::End => return feed_zeros(out, room, raw, g, less(size, pos)),
             Found::No(_) => return g,
             Found::At(p) => match extent_at(reader, image, p) {
                 ExtentRead::No(_) => return g,
                 ExtentRead::Got(e) => {
-                    g = push_step(out, room, g, image, reader, size, pos, e);
+                    g = push_step(out, room, raw, g, image, reader, size, pos, e);
                     pos = next_pos(size, pos, e);
                     let c = s.cursor;
                     s = next(image, q, c, s.nodes);

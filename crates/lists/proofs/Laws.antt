@@ -20,7 +20,8 @@ use Rattle.inode_record.specs.Inode.{inodeTold, inodeAt}
 use Rattle.inode_record.specs.declared.inode.InodeRead.{InodeRead}
 use Rattle.cursor.specs.declared.Step.{Step}
 use Rattle.cursor.proofs.Through as through
-use Rattle.lists.specs.Lists.{searchOf, listOf, elementAt, keep, kept, placed, inodeOf}
+use Rattle.lists.specs.Lists.{searchOf, listOf, elementAt, placed, inodeOf}
+use Rattle.lists.specs.Inner.{keep, kept}
 use Rattle.records.proofs.Laws as record-laws
 use Rattle.lists.proofs.Reading.{reading, list-start, list-end, list-refused, list-no, list-next}
 

@@ -5,6 +5,8 @@ use mathlib.Core.List.{List}
 use mathlib.Core.Option.{Option, none, some}
 use Rattle.error.specs.Answer.{Answer, got, no}
 use Rattle.error.specs.declared.Refusal.{Refusal}
+use Rattle.error.specs.declared.Refusal.the-variants.{Unsupported}
+use Rattle.error.proofs.Laws.{same, other}
 use Rattle.lookup.specs.Counted.{Counted, after}
 use Rattle.btree.specs.Scan.{scanOf}
 use Rattle.btree.specs.declared.entries.Search.{Search}
@@ -14,6 +16,7 @@ use Rattle.obj.specs.declared.reader.Reader.{Reader}
 use Rattle.cursor.specs.Left.{left, runOf}
 use Rattle.cursor.specs.declared.Step.{Step}
 use Rattle.volume.specs.declared.Volume.{Volume}
+use Rattle.inode_record.specs.declared.inode.Inode.{Inode}
 use Rattle.records.specs.Directory.{entryTold, entryAt}
 use Rattle.records.specs.Attribute.{attributeTold, attributeAt}
 use Rattle.records.specs.Extent.{extentTold, extentAt}
@@ -23,7 +26,8 @@ use Rattle.records.specs.declared.attribute.Attribute.{Attribute}
 use Rattle.records.specs.declared.attribute.AttributeRead.{AttributeRead}
 use Rattle.records.specs.declared.extent.Extent.{Extent}
 use Rattle.records.specs.declared.extent.ExtentRead.{ExtentRead}
-use Rattle.lists.specs.Lists.{searchOf, listOf, placed, kept, entriesOf, attributesOf, extentsOf}
+use Rattle.lists.specs.Lists.{searchOf, listOf, placed, entriesOf, attributesOf, extentsOf, compressed, fileExtents}
+use Rattle.lists.specs.Inner.{kept}
 use Rattle.lists.specs.Told.{entryPlaced, entryFound, attributePlaced, attributeFound, extentPlaced, extentFound}
 use Rattle.lists.specs.declared.entries.EntryAt.{EntryAt}
 use Rattle.lists.specs.declared.entries.EntryFound.{EntryFound}
@@ -115,6 +119,18 @@ pub extent-done : (b : List ℕ) (v : Volume) (id place s n : ℕ) (q : Search) 
     → after n (extentPlaced x) ≡ placed place (listOf (extentAt (v .reader) b) (scanOf b q s)) → extentFound r ≡ placed place (extentsOf b v id s)
 unfolding extentsOf
 extent-done b v id place s n q x r e h g = rw h (rw e at g)
+
+-- the extents of a file
+module _ (b : List ℕ) (v : Volume) (i : Inode) (place s : ℕ) (r : ExtentFound) where
+  pub extents-compressed : compressed i ≡ 1 → r ≡ record { extent = ExtentAt.No Unsupported; nodes = s } → extentFound r ≡ fileExtents b v i place s
+  unfolding fileExtents
+  extents-compressed h e = same _ _ _ _ _ h (rw e)
+
+  pub extents-stored : (compressed i ≡ 1 → ⊥) → extentFound r ≡ placed place (extentsOf b v (i .ids .«private_id») s) → extentFound r ≡ fileExtents b v i place s
+  unfolding fileExtents
+  extents-stored h e = other _ _ _ _ _ h e
+
+pub ruleset stored = (all, extents-compressed, extents-stored)
 
 pub ruleset turns = (all, size-less, place-start, place-end, list-refused, list-no, entry-was, entry-was-no, entry-done, attribute-was, attribute-was-no, attribute-done, extent-was, extent-was-no, extent-done)
 

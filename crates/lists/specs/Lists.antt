@@ -1,11 +1,11 @@
 -- The lists of a volume: its inodes, directory entries, attributes and extents. Document 01, fs.rs: "Lists come an element a call, by place, the
 -- whole list read first; past its end is "none""; fs.rs, `records`, `inode`, `read_dir`, `xattrs`, `extents`.
-use Prim.Native.Nat.{ℕ, zero, suc}
+use Prim.Native.Nat.{ℕ, zero, suc, _/_, _%_}
 use mathlib.Core.List.{List, [], _∷_}
 use mathlib.Core.Option.{Option, some}
 use mathlib.Core.Option as option
-use Rattle.error.specs.Answer.{Answer, got, no, _>>=_}
-use Rattle.error.specs.declared.Refusal.the-variants.{NotFound}
+use Rattle.error.specs.Answer.{Answer, got, no, ifEq}
+use Rattle.error.specs.declared.Refusal.the-variants.{Unsupported, NotFound}
 use Rattle.lookup.specs.Counted.{Counted, after, from, onto}
 use Rattle.lookup.specs.declared.map.Resolve.the-variants.{Mapped}
 use Rattle.btree.specs.Scan.{Run, more, end, refused, scanOf, nth}
@@ -49,21 +49,27 @@ inodeMet b v id option.none = no NotFound
 unfoldable pub inodeOf : List ℕ → Volume → ℕ → ℕ → Counted Inode
 inodeOf b v id s = onto (nth 0 (scanOf b (searchOf v id 3) s)) λ m t. after t (inodeMet b v id m)
 
+-- fs.rs, `root`; ROOT_DIR_INO_NUM
+abbrev pub rootId : ℕ
+rootId = 2
+
+abbrev pub rootOf : List ℕ → Volume → ℕ → Counted Inode
+rootOf b v s = inodeOf b v rootId s
+
 -- the element at a place, or none past the list's end
 unfoldable pub elementAt : {A : Type 0} → ℕ → List A → Option A
 elementAt k [] = option.none
 elementAt zero (x ∷ xs) = some x
 elementAt (suc k) (x ∷ xs) = elementAt k xs
 
--- what is kept of a list once x is passed, where the element after `left` others is wanted
-unfoldable pub keep : {A : Type 0} → Option A → ℕ → A → Option A
-keep option.none zero x = some x
-keep option.none (suc n) x = option.none
-keep (some y) n x = some y
-
-abbrev pub kept : {A : Type 0} → Answer (Option A) → ℕ → A → Answer (Option A)
-kept a left x = a >>= λ o. got (keep o left x)
-
 -- an element by its place, the whole list read first
 abbrev pub placed : {A : Type 0} → ℕ → Counted (List A) → Counted (Option A)
 placed k c = onto c λ xs t. after t (got (elementAt k xs))
+
+-- 1 where a file is compressed: UF_COMPRESSED, bit 0x20 (fs.rs, `is_compressed`)
+abbrev pub compressed : Inode → ℕ
+compressed i = i .owner .«bsd_flags» / 32 % 2
+
+-- document 01: "`file_extents` gives them as stored"; of a compressed file it is 3 (fs.rs, `file_extents`)
+unfoldable pub fileExtents : List ℕ → Volume → Inode → ℕ → ℕ → Counted (Option Extent)
+fileExtents b v i place s = ifEq (compressed i) 1 (after s (no Unsupported)) (placed place (extentsOf b v (i .ids .«private_id») s))

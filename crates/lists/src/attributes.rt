@@ -10,7 +10,8 @@ use records::AttributeRead;
 use volume::Volume;
 ghost use mathlib.Core.Path.{_≡_};
 ghost use Rattle.lists.specs.Told.{attributePlaced, attributeFound};
-ghost use Rattle.lists.specs.Lists.{placed, kept, attributesOf};
+ghost use Rattle.lists.specs.Lists.{placed, attributesOf};
+ghost use Rattle.lists.specs.Inner.{kept};
 
 // Nothing: the place is past the list's end.
 pub enum AttributeAt {

@@ -10,7 +10,8 @@ use records::EntryRead;
 use volume::Volume;
 ghost use mathlib.Core.Path.{_≡_};
 ghost use Rattle.lists.specs.Told.{entryPlaced, entryFound};
-ghost use Rattle.lists.specs.Lists.{placed, kept, entriesOf};
+ghost use Rattle.lists.specs.Lists.{placed, entriesOf};
+ghost use Rattle.lists.specs.Inner.{kept};
 
 // Nothing: the place is past the list's end.
 pub enum EntryAt {

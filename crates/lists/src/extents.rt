@@ -1,16 +1,18 @@
-// The extents of an id, by place (fs.rs, `extents`).
+// The extents of an id, and of a file, by place (fs.rs, `extents`, `file_extents`).
 use crate::tree::fewer;
 use crate::tree::search;
 use btree::Found;
 use cursor::first;
 use cursor::next;
 use error::Refusal;
+use inode_record::Inode;
 use records::Extent;
 use records::ExtentRead;
 use volume::Volume;
 ghost use mathlib.Core.Path.{_≡_};
 ghost use Rattle.lists.specs.Told.{extentPlaced, extentFound};
-ghost use Rattle.lists.specs.Lists.{placed, kept, extentsOf};
+ghost use Rattle.lists.specs.Lists.{placed, extentsOf, fileExtents};
+ghost use Rattle.lists.specs.Inner.{kept};
 
 // Nothing: the place is past the list's end.
 pub enum ExtentAt {
@@ -75,4 +77,16 @@ pub fn extent_at(image: &[u8], v: Volume, id: u64, place: u64, nodes: u64) -> Ex
             },
         }
     }
+}
+
+// As they are stored.
+pub fn file_extents(image: &[u8], v: Volume, i: Inode, place: u64, nodes: u64) -> ExtentFound
+    ensures { λ r. ⌜ extentFound r ≡ fileExtents (now (image .entry)) v i place nodes ⌝ }
+{
+    let owner = i.owner;
+    let ids = i.ids;
+    if owner.bsd_flags / 32 % 2 == 1 {
+        return found(ExtentAt::No(Refusal::Unsupported), nodes);
+    }
+    extent_at(image, v, ids.private_id, place, nodes)
 }

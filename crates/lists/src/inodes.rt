@@ -8,7 +8,10 @@ use inode_record::inode_at;
 use volume::Volume;
 ghost use mathlib.Core.Path.{_≡_};
 ghost use Rattle.lists.specs.Told.{inodeFound};
-ghost use Rattle.lists.specs.Lists.{inodeOf};
+ghost use Rattle.lists.specs.Lists.{inodeOf, rootOf};
+
+// The id of the root directory (ROOT_DIR_INO_NUM).
+pub const ROOT: u64 = 2;
 
 // An inode, and the nodes gone through.
 pub struct InodeFound {
@@ -37,4 +40,11 @@ pub fn inode(image: &[u8], v: Volume, id: u64, nodes: u64) -> InodeFound
             nodes: s.nodes,
         },
     }
+}
+
+// The root directory (fs.rs, `root`).
+pub fn root(image: &[u8], v: Volume, nodes: u64) -> InodeFound
+    ensures { λ r. ⌜ inodeFound r ≡ rootOf (now (image .entry)) v nodes ⌝ }
+{
+    inode(image, v, ROOT, nodes)
 }

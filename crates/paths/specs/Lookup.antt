@@ -10,7 +10,7 @@ use Rattle.volume.specs.declared.Volume.{Volume}
 use Rattle.records.specs.Directory.{entryTold, entryName}
 use Rattle.records.specs.declared.directory.Entry.{Entry}
 use Rattle.inode_record.specs.declared.inode.Inode.{Inode}
-use Rattle.lists.specs.Lists.{entriesOf, inodeOf}
+use Rattle.lists.specs.Lists.{entriesOf, inodeOf, rootOf}
 use Rattle.paths.specs.Parts.{partsOf}
 use Rattle.paths.specs.Names.{ruleOf}
 use Rattle.paths.specs.Find.{findEntry}
@@ -38,4 +38,4 @@ walkParts b v c (p ∷ ps) = walkParts b v (onto c λ f t. partInode b v p (f .i
 
 -- from the root (ROOT_DIR_INO_NUM is 2); 5 "path not UTF-8, after opening and before the root is read"
 unfoldable pub lookupPath : List ℕ → Volume → List ℕ → ℕ → Counted Inode
-lookupPath b v path s = pick (strict path) (walkParts b v (inodeOf b v 2 s) (partsOf path)) (after s (no PathNotUtf8))
+lookupPath b v path s = pick (strict path) (walkParts b v (rootOf b v s) (partsOf path)) (after s (no PathNotUtf8))

@@ -13,6 +13,7 @@ use error::Refusal;
 use inode_record::InodeRead;
 use lists::InodeFound;
 use lists::inode;
+use lists::root;
 use lists::search;
 use records::EntryRead;
 use records::entry_at;
@@ -89,7 +90,7 @@ pub fn lookup_path(image: &[u8], v: Volume, path: &[u8], nodes: u64) -> InodeFou
             nodes: nodes,
         };
     }
-    let mut found = inode(image, v, 2, nodes);
+    let mut found = root(image, v, nodes);
     let mut p = next_part(path, 0);
     while 0 < p.len {
         let reached = found.inode;

@@ -1,15 +1,18 @@
--- The bytes of a file, and the text of a symbolic link, by the inode's id: document 01, fs.rs, `read_at` and `read_link`.
+-- The bytes of a file and of an attribute, and the text of a symbolic link, by the inode's id: document 01, fs.rs, `read_at`, `read_xattr` and
+-- `read_link`.
 use Prim.Native.Nat.{ℕ}
-use mathlib.Core.List.{List}
-use Rattle.error.specs.Answer.{Answer}
-use Rattle.lookup.specs.Counted.{Counted, onto}
+use mathlib.Core.List.{List, []}
+use mathlib.Core.Option.{Option, none, some}
+use Rattle.error.specs.Answer.{Answer, got}
+use Rattle.lookup.specs.Counted.{Counted, after, onto}
 use Rattle.volume.specs.declared.Volume.{Volume}
-use Rattle.lists.specs.Lists.{inodeOf}
+use Rattle.records.specs.declared.attribute.Attribute.{Attribute}
+use Rattle.lists.specs.Lists.{placed, attributesOf, inodeOf}
 use Rattle.files.specs.File.{readFile}
-use Rattle.links.specs.Link.{linkOf}
+use Rattle.links.specs.Link.{contentsOf, linkOf}
 use Rattle.calls.specs.OnVolume.{onVolume}
 
--- of a file, as many bytes as the buffer's length asks and the file has: "a read at an offset"
+-- of a file, as many bytes from an offset on as the buffer's length asks and the file has; its inode is read first
 unfoldable pub readOn : List ℕ → Volume → ℕ → ℕ → ℕ → ℕ → Counted (List ℕ)
 readOn image v id off len s = onto (inodeOf image v id s) λ i t. readFile image v i off len t
 
@@ -24,3 +27,15 @@ linkOn image v id s = onto (inodeOf image v id s) λ i t. linkOf image v i t
 -- what `apfs_link` answers
 unfoldable pub linkText : List ℕ → ℕ → ℕ → Answer (List ℕ)
 linkText image index id = onVolume (λ v s. linkOn image v id s) image index
+
+abbrev pub xattrShow : List ℕ → Volume → Option Attribute → ℕ → Counted (List ℕ)
+xattrShow image v none s = after s (got [])
+xattrShow image v (some a) s = contentsOf image v a s
+
+-- the bytes of the attribute at a place; "past its end is "none"": no bytes
+unfoldable pub xattrOn : List ℕ → Volume → ℕ → ℕ → ℕ → Counted (List ℕ)
+xattrOn image v id place s = onto (placed place (attributesOf image v id s)) λ o t. xattrShow image v o t
+
+-- what `apfs_xattr_bytes` answers
+unfoldable pub xattrBytes : List ℕ → ℕ → ℕ → ℕ → Answer (List ℕ)
+xattrBytes image index id place = onVolume (λ v s. xattrOn image v id place s) image index

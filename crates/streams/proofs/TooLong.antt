@@ -18,7 +18,7 @@ use Rattle.text.proofs.Writing.{puts-refused, byte-stopped}
 use Rattle.extents.proofs.Verdicts.{le-or-gt}
 
 -- a text longer than the room does not fit, wherever it would begin
-past-room : (room : ℕ) (t b : List ℕ) (k : ℕ) → room < length t → puts room t (at b k) ≡ refused BufferTooShort
+pub past-room : (room : ℕ) (t b : List ℕ) (k : ℕ) → room < length t → puts room t (at b k) ≡ refused BufferTooShort
 unfolding puts put
 past-room room [] b k h = absurd (omega arith)
 past-room room (x ∷ t) b k h = of (le-or-gt k room)

@@ -1,6 +1,6 @@
 use borrow.Author.Needs.{needs}
 use Rattle.element_lines.specs.Elements.{lookupOn}
-use Rattle.element_lines.proofs.Steps.{onward}
+use Rattle.calls.proofs.Steps.{elements}
 use Rattle.element_lines.proofs.by_path.lookup_on.Statement.{statement}
 use Rattle.element_lines.proofs.by_path.lookup_on.Tie as tie
 
@@ -14,5 +14,5 @@ lookup-on-spec =
     (λ c κs. search needs)
     (λ c. search needs)
     (λ c. search needs)
-    (λ c. search onward)
-    (λ c. search onward))
+    (λ c. search elements)
+    (λ c. search elements))

@@ -1,6 +1,6 @@
 use borrow.Author.Needs.{needs}
 use Rattle.element_lines.specs.Elements.{entryOn}
-use Rattle.element_lines.proofs.Steps.{onward}
+use Rattle.calls.proofs.Steps.{elements}
 use Rattle.element_lines.proofs.entry.entry_on.Statement.{statement}
 use Rattle.element_lines.proofs.entry.entry_on.Tie as tie
 
@@ -14,7 +14,7 @@ entry-on-spec =
     (λ c. search needs)
     (λ c κs. search needs)
     (λ c. search needs)
-    (λ c. search onward)
+    (λ c. search elements)
     (λ c. search needs)
-    (λ c. search onward)
-    (λ c. search onward))
+    (λ c. search elements)
+    (λ c. search elements))

@@ -14,4 +14,4 @@ push-step-spec =
     (λ c κs. search needs)
     (λ c κs. search needs)
     (λ c. search needs)
-    (λ c. λ xs. step-some _ _ _ xs _ _ _ _ _ _ _ _ _ _ _ (c .before .before .before .before .before .before .before .before .before .before .before .if1 .left) (c .before .before .before .before .before .before .before .before .before .before .smaller .ensures) (c .before .before .before .before .before .before .before .before .before .less .ensures) (c .before .before .before .before .before .before .before .push-zeros .ensures) (c .before .before .before .wanted .ensures) (c .before .before .push-taken .ensures)))
+    (λ c. λ xs. step-some _ _ _ _ xs _ _ _ _ _ _ _ _ _ _ _ (c .before .before .before .before .before .before .before .before .before .before .before .if1 .left) (c .before .before .before .before .before .before .before .before .before .before .smaller .ensures) (c .before .before .before .before .before .before .before .before .before .less .ensures) (c .before .before .before .before .before .before .before .feed-zeros .ensures) (c .before .before .before .wanted .ensures) (c .before .before .push-taken .ensures)))

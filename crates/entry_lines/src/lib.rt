@@ -1,0 +1,127 @@
+// The lines of a directory's entries from a place on, as many as fit.
+use cursor::first;
+use cursor::next;
+use forms::SeenEntry;
+use forms::look_entry;
+use lines::put_entry_line;
+use lists::EntryAt;
+use lists::entry_at;
+use lists::fewer;
+use lists::search;
+use obj::Reader;
+use records::Entry;
+use text::Position;
+use volume::Volume;
+use volume::VolumeOpening;
+use volume::open_at;
+ghost use mathlib.Core.Path.{_≡_};
+ghost use lib.ListN.{length, drop};
+ghost use Prim.Native.Nat.{_≤_};
+ghost use Rattle.text.specs.Output.{at, puts};
+ghost use Rattle.btree.specs.Scan.{scanOf};
+ghost use Rattle.records.specs.Directory.{entryAt};
+ghost use Rattle.lists.specs.Lists.{searchOf};
+ghost use Rattle.forms.specs.Inner.{readable};
+ghost use Rattle.calls.specs.Filled.{filledAt, filledBy};
+ghost use Rattle.entry_lines.specs.Entries.{linesOf, fitting, entriesOn, entriesText};
+ghost use Rattle.entry_lines.specs.Inner.{lineAt, filledFrom, entriesFrom};
+
+// The line of an entry after n bytes, where it fits; nothing of an entry that is to be passed.
+fn put_next(
+    out: &mut [u8],
+    room: usize,
+    n: usize,
+    image: &[u8],
+    reader: Reader,
+    left: u64,
+    e: Entry,
+) -> Position
+    requires { ⌜ n ≤ room ⌝ }
+    ensures { λ r. ⌜ filledAt r (now (out .exit)) ≡ filledFrom room n (lineAt reader (now (image .entry)) left e) (now (out .entry)) ⌝ }
+{
+    if 0 < left {
+        return Position::At(n);
+    }
+    match put_entry_line(&mut out[..0], room, Position::At(n), image, reader, e) {
+        Position::No(w) => Position::No(w),
+        Position::At(_) => put_entry_line(out, room, Position::At(n), image, reader, e),
+    }
+}
+
+// How many bytes the lines that fit take.
+fn put_entries(
+    out: &mut [u8],
+    room: usize,
+    image: &[u8],
+    v: Volume,
+    id: u64,
+    place: u64,
+    nodes: u64,
+) -> usize
+    ensures { λ r. ⌜ at (now (out .exit)) r ≡ puts room (fitting room (linesOf (v .reader) (now (image .entry)) (drop place (readable (entryAt (v .reader) (now (image .entry))) (scanOf (now (image .entry)) (searchOf v id 9) nodes))))) (at (now (out .entry)) 0) ⌝ }
+{
+    let q = search(v, id, 9);
+    let reader = v.reader;
+    let mut n = 0;
+    let mut left = place;
+    let mut s = first(image, q, nodes);
+    loop {
+        let found = s.found;
+        match look_entry(image, reader, found) {
+            SeenEntry::Over => return n,
+            SeenEntry::At(e) => match put_next(out, room, n, image, reader, left, e) {
+                Position::No(_) => return n,
+                Position::At(m) => {
+                    n = m;
+                    left = fewer(left);
+                    let c = s.cursor;
+                    s = next(image, q, c, s.nodes);
+                }
+            },
+        }
+    }
+}
+
+// e is the entry at the place: where its line does not fit, nothing is written.
+fn entries_from(
+    image: &[u8],
+    v: Volume,
+    id: u64,
+    place: u64,
+    e: Entry,
+    nodes: u64,
+    out: &mut [u8],
+) -> Position
+    ensures { λ r. ⌜ filledAt r (now (out .exit)) ≡ entriesFrom (v .reader) (now (image .entry)) e (drop place (readable (entryAt (v .reader) (now (image .entry))) (scanOf (now (image .entry)) (searchOf v id 9) nodes))) (now (out .entry)) ⌝ }
+{
+    let room = out.len();
+    let reader = v.reader;
+    match put_entry_line(&mut out[..0], room, Position::At(0), image, reader, e) {
+        Position::No(w) => Position::No(w),
+        Position::At(_) => { Position::At(put_entries(out, room, image, v, id, place, nodes)) }
+    }
+}
+
+// The whole list is read for its faults, then its lines are written in a second walk.
+fn entries_on(image: &[u8], v: Volume, id: u64, place: u64, nodes: u64, out: &mut [u8]) -> Position
+    ensures { λ r. ⌜ filledAt r (now (out .exit)) ≡ filledBy (entriesOn (now (image .entry)) v id place (length (now (out .entry))) nodes .answer) (now (out .entry)) ⌝ }
+{
+    let found = entry_at(image, v, id, place, nodes);
+    let entry = found.entry;
+    match entry {
+        EntryAt::Nothing => Position::At(0),
+        EntryAt::At(e) => entries_from(image, v, id, place, e, nodes, out),
+        EntryAt::No(w) => Position::No(w),
+    }
+}
+
+pub fn entries_text(image: &[u8], index: u64, id: u64, place: u64, out: &mut [u8]) -> Position
+    ensures { λ r. ⌜ filledAt r (now (out .exit)) ≡ filledBy (entriesText (now (image .entry)) index id place (length (now (out .entry)))) (now (out .entry)) ⌝ }
+{
+    let opened = open_at(image, index);
+    let volume = opened.volume;
+    match volume {
+        VolumeOpening::Got(v) => entries_on(image, v, id, place, opened.nodes, out),
+        VolumeOpening::No(w) => Position::No(w),
+    }
+}
