@@ -40,24 +40,24 @@ poured-none d size (e ∷ es) = sym (at-most _ _ _ _ _ (omega arith) refl)
 
 module _ (d : Disk) where
   -- what is taken of an extent whose bytes lie in the image is what it lays
-  taken-bytes : (e : Extent) (a n : ℕ) → n ≤ e .len → (0 < n → a ≡ e .logical) → (0 < n → 0 < e .phys → e .phys * d .block + n ≤ length (d .image)) → taken d e n ≡ span (λ i. over d i e 0) a n
-  taken-bytes e a n h s inside = go (le-or-gt (e .phys) 0)
+  taken-bytes : (e : Extent) (a n : ℕ) → n ≤ e .len → (0 < n → a ≡ e .logical) → (0 < n → 0 < e .«phys_block» → e .«phys_block» * d .block + n ≤ length (d .image)) → taken d e n ≡ span (λ i. over d i e 0) a n
+  taken-bytes e a n h s inside = go (le-or-gt (e .«phys_block») 0)
     where
-      go : (e .phys ≤ 0) ⊎ (0 < e .phys) → taken d e n ≡ span (λ i. over d i e 0) a n
+      go : (e .«phys_block» ≤ 0) ⊎ (0 < e .«phys_block») → taken d e n ≡ span (λ i. over d i e 0) a n
       go (inl u) = taken-sparse d e n (omega arith) ∙ zeros-span (λ i. over d i e 0) a n (λ k b. over-sparse d e (a + k) 0 u)
       go (inr u) =
           taken-real d e n (λ q. omega arith)
           ∙ ext-getD 0 _ _ (long (le-or-gt n 0) ∙ sym (span-length _ _ _)) (λ k b. at k (rw (long (le-or-gt n 0)) at b))
         where
-          long : (n ≤ 0) ⊎ (0 < n) → length (take n (drop (e .phys * d .block) (d .image))) ≡ n
+          long : (n ≤ 0) ⊎ (0 < n) → length (take n (drop (e .«phys_block» * d .block) (d .image))) ≡ n
           long (inl z) = simp (length-take, length-drop) (omega arith)
           long (inr z) = simp (length-take, length-drop) (omega (arith, inside z u))
 
-          at : (k : ℕ) → k < n → getD (take n (drop (e .phys * d .block) (d .image))) k 0 ≡ getD (span (λ i. over d i e 0) a n) k 0
+          at : (k : ℕ) → k < n → getD (take n (drop (e .«phys_block» * d .block) (d .image))) k 0 ≡ getD (span (λ i. over d i e 0) a n) k 0
           at k b =
               let r : a ≡ e .logical = s (omega arith) in
               let t : a + k - e .logical ≡ k = omega arith in
-              rw (span-at (λ i. over d i e 0) a n k b, over-is d e (a + k) 0 (omega arith) (omega arith) u, t, getD-take n (drop (e .phys * d .block) (d .image)) k 0 b, getD-drop)
+              rw (span-at (λ i. over d i e 0) a n k b, over-is d e (a + k) 0 (omega arith) (omega arith) u, t, getD-take n (drop (e .«phys_block» * d .block) (d .image)) k 0 b, getD-drop)
 
   module _ (e : Extent) (es : List Extent) (c : inOrder end (end e) es ≡ fine) (size p a n : ℕ) (qa : a ≡ min (e .logical) size) (qn : n ≡ min (e .len) (size - a)) (h : p ≤ e .logical) (k : p < size) where
     f : ℕ → ℕ
@@ -67,7 +67,7 @@ module _ (d : Disk) where
     unfolding f
     gap = zeros-span f p (a - p) (λ j b. rw (over-not d e (p + j) 0 (inl (omega arith))) (byte-before d (p + j) (end e) es 0 c (omega arith)))
 
-    own : (0 < n → 0 < e .phys → e .phys * d .block + n ≤ length (d .image)) → taken d e n ≡ span f a n
+    own : (0 < n → 0 < e .«phys_block» → e .«phys_block» * d .block + n ≤ length (d .image)) → taken d e n ≡ span f a n
     unfolding f
     own inside =
         taken-bytes e a n (omega arith) (λ b. omega arith) inside
@@ -77,7 +77,7 @@ module _ (d : Disk) where
     unfolding f
     rest y w = w ∙ span-same (λ i. byteAt d i es 0) f (a + n) (size - (a + n)) (λ j b. rw (over-not d e (a + n + j) 0 (inr (omega arith))))
 
-    joined : (y : List ℕ) → (0 < n → 0 < e .phys → e .phys * d .block + n ≤ length (d .image)) → y ≡ span (λ i. byteAt d i es 0) (a + n) (size - (a + n)) → replicate (a - p) 0 ++ (taken d e n ++ y) ≡ span f p (size - p)
+    joined : (y : List ℕ) → (0 < n → 0 < e .«phys_block» → e .«phys_block» * d .block + n ≤ length (d .image)) → y ≡ span (λ i. byteAt d i es 0) (a + n) (size - (a + n)) → replicate (a - p) 0 ++ (taken d e n ++ y) ≡ span f p (size - p)
     joined y w v =
         let r : size - p ≡ a - p + (n + (size - (a + n))) = omega arith in
         let t : p + (a - p) ≡ a = omega arith in
@@ -85,7 +85,7 @@ module _ (d : Disk) where
 
   module _ (pos : 0 < d .block) (size : ℕ) where
     -- the bytes of an allowed extent that are wanted lie in the image
-    inside : (e : Extent) (a n : ℕ) → a ≡ min (e .logical) size → n ≡ min (e .len) (size - a) → allows d 0 size e ≡ fine → 0 < n → 0 < e .phys → e .phys * d .block + n ≤ length (d .image)
+    inside : (e : Extent) (a n : ℕ) → a ≡ min (e .logical) size → n ≡ min (e .len) (size - a) → allows d 0 size e ≡ fine → 0 < n → 0 < e .«phys_block» → e .«phys_block» * d .block + n ≤ length (d .image)
     inside e a n qa qn w s r = omega (arith, reach-within d e _ _ pos (allowed-sound d 0 size e w (record { some = omega arith; real = r })))
 
     -- where every extent is allowed, a stream pours what a read lays

@@ -10,7 +10,7 @@ use Rattle.files.specs.Read.{over, byteAt, span, bytes, readAt, readAll}
 use Rattle.streams.specs.Stream.{piece, fetch, streamBy, stream}
 
 abbrev x : ℕ → ℕ → ℕ → Extent
-x a b c = record { logical = a; len = b; phys = c }
+x a b c = record { logical = a; len = b; «phys_block» = c }
 
 abbrev k : Disk
 k = record { image = 1 ∷ 2 ∷ 3 ∷ 4 ∷ 5 ∷ 6 ∷ 7 ∷ 8 ∷ 9 ∷ 10 ∷ 11 ∷ 12 ∷ 13 ∷ 14 ∷ 15 ∷ 16 ∷ []; block = 4; count = 4 }

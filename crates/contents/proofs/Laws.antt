@@ -75,10 +75,10 @@ ordering-end (got tt) last = refl
 ordering-end (no w) last = refl
 
 module _ (b : List ℕ) (q : Search) (s : Step) where
-  pub apart-start : (n : ℕ) (last : Extent) → last ≡ record { logical = 0; len = 0; phys = 0 } → runOf b q s ≡ scanOf b q n
+  pub apart-start : (n : ℕ) (last : Extent) → last ≡ record { logical = 0; len = 0; «phys_block» = 0 } → runOf b q s ≡ scanOf b q n
       → reading (extentAt (q .reader) b) (ordering fine last) (runOf b q s) ≡ (onto (listOf (extentAt (q .reader) b) (scanOf b q n)) λ es t. after t (inOrder end 0 es))
   unfolding ordering
-  apart-start n last h e = rw h (list-start (extentAt (q .reader) b) (ordering fine (record { logical = 0; len = 0; phys = 0 })) b q s n e)
+  apart-start n last h e = rw h (list-start (extentAt (q .reader) b) (ordering fine (record { logical = 0; len = 0; «phys_block» = 0 })) b q s n e)
 
   module _ (v : Verdict) (last : Extent) (whole : Counted (Unit {0})) (inv : reading (extentAt (q .reader) b) (ordering v last) (runOf b q s) ≡ whole) where
     pub apart-end : s .found ≡ End → after (s .nodes) v ≡ whole

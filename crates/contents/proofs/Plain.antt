@@ -18,7 +18,8 @@ use Rattle.extents.specs.Verdict.{Verdict, fine, _>>_}
 use Rattle.extents.specs.Extents.{Disk, diskOf, start, end, inOrder, since, decide}
 use Rattle.files.specs.Read.{bytes, span, readAt, readAll}
 use Rattle.extents.specs.Inner.{judgeOf}
-use Rattle.files.specs.File.{sizeOf, compressed, readPlain, readWhole}
+use Rattle.files.specs.File.{sizeOf, readPlain, readWhole}
+use Rattle.inode_record.specs.Inode.{compressed}
 use Rattle.streams.specs.Inner.{poured, streamBytes}
 use Rattle.extents.proofs.Verdicts.{le-or-gt, assoc}
 use Rattle.contents.proofs.AgreeLaws.{all-poured}

@@ -56,7 +56,7 @@ fn apart(image: &[u8], q: Search, nodes: u64) -> Settled
     let mut last = Extent {
         logical: 0,
         len: 0,
-        phys: 0,
+        phys_block: 0,
     };
     let mut s = first(image, q, nodes);
     loop {

@@ -21,7 +21,8 @@ use Rattle.lists.specs.Lists.{searchOf, listOf, entriesOf, attributesOf, extent
 use Rattle.extents.specs.Extents.{diskOf}
 use Rattle.files.specs.Read.{readAt, readAll}
 use Rattle.streams.specs.Stream.{stream}
-use Rattle.files.specs.File.{sizeOf, compressed, readFile, readPlain, readWhole}
+use Rattle.files.specs.File.{sizeOf, readFile, readPlain, readWhole}
+use Rattle.inode_record.specs.Inode.{compressed}
 use Rattle.streams.specs.Streams.{streamOf}
 use Rattle.links.specs.Link.{contentsBy, contentsOf}
 

@@ -22,7 +22,7 @@ use Rattle.demand.proofs.Walks.{Reads, follow-nowhere}
 abbrev lone : ℕ → Answer (List ℕ) → Answer (List ℕ) → View
 lone bsd contents read = record {
   label = [];
-  rule = record { caseless = false; normless = false };
+  rule = record { «case_insensitive» = false; «normalization_insensitive» = false };
   inode = λ i. got (smallInode bsd i);
   entries = λ i. got [];
   attributes = λ i. got [];

@@ -17,13 +17,13 @@ use Rattle.demand.specs.Demand.{here, nowhere, place, onward, follow, ch
 use Rattle.demand.specs.Listers.{smallInode}
 
 abbrev child : ℕ → List ℕ → EntryShown
-child i l = record { id = i; date = 7; kind = 4; label = l }
+child i l = record { id = i; «date_added» = 7; kind = 4; label = l }
 
 -- files are empty, nothing is packed
 abbrev plain : (ℕ → Answer (List EntryShown)) → (ℕ → Answer (List (AttributeShown (Answer (List ℕ))))) → View
 plain es l = record {
   label = 65 ∷ [];
-  rule = record { caseless = true; normless = false };
+  rule = record { «case_insensitive» = true; «normalization_insensitive» = false };
   inode = λ i. got (smallInode 0 i);
   entries = es;
   attributes = l;

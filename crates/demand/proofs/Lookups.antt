@@ -42,14 +42,14 @@ module _ (image : List ℕ) (v : Volume) where
   unfolding entryShown nameRead
   same-name e = refl
 
-  of-entry : (r : Answer Entry) → ((r >>= λ e. got (entryShown (v .reader) image e)) >>= λ e. inodeAnswer image v e.id) ≡ shown (r >>= λ e. inodes (e .id))
+  of-entry : (r : Answer Entry) → ((r >>= λ e. got (entryShown (v .reader) image e)) >>= λ e. inodeAnswer image v e.id) ≡ shown (r >>= λ e. inodes (e .«file_id»))
   unfolding inodeAnswer entryShown
   of-entry (got e) = refl
   of-entry (no w) = refl
 
   of-list : (p : List ℕ) (a : Answer (List Entry))
       → ((a >>= λ es. got (map (entryShown (v .reader) image) es)) >>= λ es. findEntry (ruleOf v) entryLabel p es >>= λ e. inodeAnswer image v e.id)
-      ≡ shown (a >>= λ es. findEntry (ruleOf v) (nameRead (v .reader) image) p es >>= λ e. inodes (e .id))
+      ≡ shown (a >>= λ es. findEntry (ruleOf v) (nameRead (v .reader) image) p es >>= λ e. inodes (e .«file_id»))
   of-list p (got es) =
       rw (find-map (entryShown (v .reader) image) (nameRead (v .reader) image) entryLabel same-name (ruleOf v) p es)
       (of-entry (findEntry (ruleOf v) (nameRead (v .reader) image) p es))
@@ -57,7 +57,7 @@ module _ (image : List ℕ) (v : Volume) where
 
   of-part : (p : List ℕ) (a : Answer Inode)
       → (shown a >>= λ f. entriesAnswer image v f.id >>= λ es. findEntry (ruleOf v) entryLabel p es >>= λ e. inodeAnswer image v e.id)
-      ≡ shown (a >>= λ f. lists (f .id) >>= λ es. findEntry (ruleOf v) (nameRead (v .reader) image) p es >>= λ e. inodes (e .id))
+      ≡ shown (a >>= λ f. lists (f .id) >>= λ es. findEntry (ruleOf v) (nameRead (v .reader) image) p es >>= λ e. inodes (e .«file_id»))
   unfolding entriesAnswer inodeShown
   of-part p (got f) = of-list p (lists (f .id))
   of-part p (no w) = refl

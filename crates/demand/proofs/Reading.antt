@@ -16,7 +16,8 @@ use Rattle.inode_record.specs.declared.inode.Inode.{Inode}
 use Rattle.lists.specs.Lists.{inodeOf, extentsOf}
 use Rattle.extents.specs.Extents.{diskOf, apart}
 use Rattle.files.specs.Read.{readAt, readAll}
-use Rattle.files.specs.File.{compressed, sizeOf, readFile, readPlain, readWhole}
+use Rattle.files.specs.File.{sizeOf, readFile, readPlain, readWhole}
+use Rattle.inode_record.specs.Inode.{compressed}
 use Rattle.extents.proofs.Verdicts.{went}
 use Rattle.files.proofs.ReadLaws.{read-length}
 use Rattle.files.proofs.FileParts.{compressed-read, file-part}

@@ -30,4 +30,4 @@ abbrev mutual
 
 -- "`(volume C N LABEL` .. Then the root's node form, then `)`"
 abbrev pub ofVolume : NameRule → List ℕ → Tree → List ℕ
-ofVolume r l t = volumeLine (r .caseless) (r .normless) l (ofTree t (close []))
+ofVolume r l t = volumeLine (r .«case_insensitive») (r .«normalization_insensitive») l (ofTree t (close []))

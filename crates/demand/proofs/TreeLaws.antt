@@ -20,7 +20,7 @@ fieldsCode = as-parts
     (num & num & num & num & num & num & num & num & int & num & num & num & num & name & two)
 
 abbrev entryCode : Code EntryShown
-entryCode = as-parts (λ e. (e.id, (e.date, (e.kind, e.label)))) (λ (i, (d, (k, l))). record { id = i; date = d; kind = k; label = l }) (λ e. refl) (num & num & num & hex)
+entryCode = as-parts (λ e. (e.id, (e.«date_added», (e.kind, e.label)))) (λ (i, (d, (k, l))). record { id = i; «date_added» = d; kind = k; label = l }) (λ e. refl) (num & num & num & hex)
 
 form-same : (v w : Form) (d b : List ℕ) {x y : List ℕ} → formText v d x ≡ formText w b y → (v ≡ w) × (d ≡ b) × (x ≡ y)
 unfolding formText
@@ -84,18 +84,18 @@ pub record SameText (r q : NameRule) (l m : List ℕ) (t u : Tree) : Type 0 wher
 pub volume-same : (r q : NameRule) (l m : List ℕ) (t u : Tree) → ofVolume r l t ≡ ofVolume q m u → SameText r q l m t u
 unfolding volumeLine
 volume-same r q l m t u e =
-    let p = same (num & num & hex) (bit (r .caseless), (bit (r .normless), l)) (bit (q .caseless), (bit (q .normless), m)) (ap (drop 8) e) tt tt in
-    let c = bit-same (r .caseless) (q .caseless) (ap (λ z. z .0) (p .0)) in
-    let n = bit-same (r .normless) (q .normless) (ap (λ z. z .1 .0) (p .0)) in
-    record { rule = λ i. record { caseless = c i; normless = n i }; label = ap (λ z. z .1 .1) (p .0); tree = tree-same t u (ap (drop 1) (p .1)) .0 }
+    let p = same (num & num & hex) (bit (r .«case_insensitive»), (bit (r .«normalization_insensitive»), l)) (bit (q .«case_insensitive»), (bit (q .«normalization_insensitive»), m)) (ap (drop 8) e) tt tt in
+    let c = bit-same (r .«case_insensitive») (q .«case_insensitive») (ap (λ z. z .0) (p .0)) in
+    let n = bit-same (r .«normalization_insensitive») (q .«normalization_insensitive») (ap (λ z. z .1 .0) (p .0)) in
+    record { rule = λ i. record { «case_insensitive» = c i; «normalization_insensitive» = n i }; label = ap (λ z. z .1 .1) (p .0); tree = tree-same t u (ap (drop 1) (p .1)) .0 }
 
 -- ---- what follows a text only follows it: of a function that takes what follows, the text that it puts before that
 
 pub record Writes (f : List ℕ → List ℕ) (s : List ℕ) : Type 0 where
   pub before : (x : List ℕ) → f x ≡ s ++ x
 
-pub volume-writes : (r : NameRule) (l : List ℕ) → Writes (volumeLine (r .caseless) (r .normless) l) (volumeLine (r .caseless) (r .normless) l [])
-volume-writes r l = record { before = volume-append (r .caseless) (r .normless) l }
+pub volume-writes : (r : NameRule) (l : List ℕ) → Writes (volumeLine (r .«case_insensitive») (r .«normalization_insensitive») l) (volumeLine (r .«case_insensitive») (r .«normalization_insensitive») l [])
+volume-writes r l = record { before = volume-append (r .«case_insensitive») (r .«normalization_insensitive») l }
 
 pub node-writes : (f : InodeShown) → Writes (nodeLine f) (nodeLine f [])
 node-writes f = record { before = node-append f }

@@ -199,7 +199,7 @@ module _ (P : EntryShown → Type 0) where
     key-holds : (es : List EntryShown) → Every P es → Holds P (keyMatch r entryLabel p es)
     unfolding keyMatch
     key-holds [] h = tt
-    key-holds (e ∷ es) h = pick-holds (wide e.label) (no CharacterNotCovered) _ tt (pick-holds (sameKeys (r .caseless) (r .normless) p e.label) (got e) _ (h .0) (key-holds es (h .1)))
+    key-holds (e ∷ es) h = pick-holds (wide e.label) (no CharacterNotCovered) _ tt (pick-holds (sameKeys (r .«case_insensitive») (r .«normalization_insensitive») p e.label) (got e) _ (h .0) (key-holds es (h .1)))
 
     find-holds : (es : List EntryShown) → Every P es → Holds P (findEntry r entryLabel p es)
     unfolding findEntry

@@ -69,8 +69,8 @@ smallInode bsd i = record {
 -- the root has inode 3, and that has inode 4
 abbrev pub smallEntries : ℕ → List EntryShown
 smallEntries i =
-    cond (eqb i 2) (record { id = 3; date = 0; kind = 4; label = 97 ∷ [] } ∷ [])
-    (cond (eqb i 3) (record { id = 4; date = 0; kind = 8; label = 98 ∷ [] } ∷ []) [])
+    cond (eqb i 2) (record { id = 3; «date_added» = 0; kind = 4; label = 97 ∷ [] } ∷ [])
+    (cond (eqb i 3) (record { id = 4; «date_added» = 0; kind = 8; label = 98 ∷ [] } ∷ []) [])
 
 abbrev pub smallFile : ℕ → ℕ → List ℕ
 smallFile b i = cond (eqb i 4) (b ∷ []) []
@@ -78,7 +78,7 @@ smallFile b i = cond (eqb i 4) (b ∷ []) []
 abbrev pub smallView : ℕ → View
 smallView b = record {
   label = 65 ∷ [];
-  rule = record { caseless = false; normless = false };
+  rule = record { «case_insensitive» = false; «normalization_insensitive» = false };
   inode = λ i. got (smallInode 0 i);
   entries = λ i. got (smallEntries i);
   attributes = λ i. got [];

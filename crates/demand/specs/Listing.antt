@@ -1,10 +1,11 @@
 -- The listing. Document 01, "The listing (added)".
-use Prim.Native.Nat.{ℕ, zero, suc, _/_, _%_}
+use Prim.Native.Nat.{ℕ, zero, suc}
 use mathlib.Core.Bool.{Bool}
 use mathlib.Core.List.{List, [], _∷_}
 use lib.Dec.{eqb}
 use Rattle.error.specs.Answer.{Answer, pick}
 use Rattle.error.specs.declared.Refusal.the-variants.{TooDeep}
+use Rattle.inode_record.specs.Inode.{compressedBit}
 use Rattle.lines.specs.Shown.{InodeShown, EntryShown, AttributeShown, packed, plain}
 use Rattle.lines.specs.Lines.{volumeLine, nodeLine, attributeLine, contentsLine, entryLine, close}
 use Rattle.demand.specs.Trace.{Trace, says, refuses, _then_, reading, within}
@@ -19,9 +20,9 @@ unfoldable pub attributeLines : List (AttributeShown (Answer (List ℕ))) → Tr
 attributeLines [] = says []
 attributeLines (a ∷ l) = reading a.contents (λ d. says (attributeLine (holding a d) [])) then attributeLines l
 
--- UF_COMPRESSED, bit 0x20 of BSD (fs.rs, `is_compressed`)
+-- by BSD
 abbrev pub isPacked : InodeShown → Bool
-isPacked f = eqb (f.bsd / 32 % 2) 1
+isPacked f = eqb (compressedBit f.bsd) 1
 
 -- "`(data BYTES)` or, if compressed, `(packed)`"
 unfoldable pub dataLine : View → InodeShown → Trace
@@ -54,7 +55,7 @@ levels = 65
 
 -- "`(volume C N LABEL` .. Then the root's node form, then `)`"
 abbrev pub volumeOver : View → Trace → Trace
-volumeOver v root = says (volumeLine (v.rule .caseless) (v.rule .normless) v.label []) then root then says (close [])
+volumeOver v root = says (volumeLine (v.rule .«case_insensitive») (v.rule .«normalization_insensitive») v.label []) then root then says (close [])
 
 unfoldable pub trace : View → Trace
 trace v = volumeOver v (nodeForm v levels 2)

@@ -53,18 +53,18 @@ module _ (off : ℕ) (best : List Extent) (e : Extent) (es : List Extent) where
 -- the bytes of e that are wanted, where there are any, and it is not sparse
 pub record Touched (off stop : ℕ) (e : Extent) : Type 0 where
   pub some : max off (e .logical) < min stop (end e)
-  pub real : 0 < e .phys
+  pub real : 0 < e .«phys_block»
 
 module _ (d : Disk) (e : Extent) where
-  pub counted-is : e .phys + blocks (d .block) (e .len) ≤ top → e .phys + blocks (d .block) (e .len) ≤ d .count → counted d e ≡ fine
+  pub counted-is : e .«phys_block» + blocks (d .block) (e .len) ≤ top → e .«phys_block» + blocks (d .block) (e .len) ≤ d .count → counted d e ≡ fine
   unfolding countedIn
   counted-is h k = sym (at-most _ _ _ _ _ h (at-most _ _ _ _ _ k refl))
 
-  pub counted-wide : top < e .phys + blocks (d .block) (e .len) → counted d e ≡ no Overflow
+  pub counted-wide : top < e .«phys_block» + blocks (d .block) (e .len) → counted d e ≡ no Overflow
   unfolding countedIn
   counted-wide h = sym (above _ _ _ _ _ h refl)
 
-  pub counted-past : e .phys + blocks (d .block) (e .len) ≤ top → d .count < e .phys + blocks (d .block) (e .len) → counted d e ≡ no Corrupt
+  pub counted-past : e .«phys_block» + blocks (d .block) (e .len) ≤ top → d .count < e .«phys_block» + blocks (d .block) (e .len) → counted d e ≡ no Corrupt
   unfolding countedIn
   counted-past h k = sym (at-most _ _ _ _ _ h (above _ _ _ _ _ k refl))
 
@@ -100,13 +100,13 @@ module _ (d : Disk) (off stop : ℕ) (e : Extent) where
 
   pub sound-allowed : end e ≤ top → (Touched off stop e → Sound) → allows d off stop e ≡ fine
   unfolding allows
-  sound-allowed h s = go (le-or-gt (min stop (end e)) (max off (e .logical))) (le-or-gt (e .phys) 0)
+  sound-allowed h s = go (le-or-gt (min stop (end e)) (max off (e .logical))) (le-or-gt (e .«phys_block») 0)
     where
-      go : (min stop (end e) ≤ max off (e .logical)) ⊎ (max off (e .logical) < min stop (end e)) → (e .phys ≤ 0) ⊎ (0 < e .phys) → allows d off stop e ≡ fine
+      go : (min stop (end e) ≤ max off (e .logical)) ⊎ (max off (e .logical) < min stop (end e)) → (e .«phys_block» ≤ 0) ⊎ (0 < e .«phys_block») → allows d off stop e ≡ fine
       go (inl t) u = sym (at-most _ _ _ _ _ h (at-most _ _ _ _ _ t refl))
       go (inr t) (inl u) = sym (at-most _ _ _ _ _ h (above _ _ _ _ _ t (same _ _ _ _ _ (omega arith) refl)))
       go (inr t) (inr u) = sym (at-most _ _ _ _ _ h (above _ _ _ _ _ t (other _ _ _ _ _ (λ q. omega arith) (sym (s (record { some = t; real = u }))))))
 
-pub reach-within : (d : Disk) (e : Extent) (a b : ℕ) → 0 < d .block → reach d e a b ≡ fine → e .phys * d .block + b ≤ length (d .image)
+pub reach-within : (d : Disk) (e : Extent) (a b : ℕ) → 0 < d .block → reach d e a b ≡ fine → e .«phys_block» * d .block + b ≤ length (d .image)
 unfolding reach
 reach-within d e a b pos w = omega (arith, lies-within d _ _ (went (counted d e) _ _ w .1), blocks-hold (d .block) pos b)

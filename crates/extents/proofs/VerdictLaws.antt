@@ -36,15 +36,15 @@ module _ (bs count : ℕ) (e : Extent) (m n : ℕ) (y : m ≡ bs) (q : n ≡ blo
   same-blocks : n ≡ blocks bs (e .len)
   same-blocks = rw y at q
 
-  pub counted-8 : top - n < e .phys → no Overflow ≡ countedIn bs count e
+  pub counted-8 : top - n < e .«phys_block» → no Overflow ≡ countedIn bs count e
   unfolding countedIn
   counted-8 h = above _ _ _ _ _ (omega (arith, same-blocks)) refl
 
-  pub counted-2 : n ≤ top → e .phys ≤ top - n → count < e .phys + n → no Corrupt ≡ countedIn bs count e
+  pub counted-2 : n ≤ top → e .«phys_block» ≤ top - n → count < e .«phys_block» + n → no Corrupt ≡ countedIn bs count e
   unfolding countedIn
   counted-2 k h l = at-most _ _ _ _ _ (omega (arith, same-blocks)) (above _ _ _ _ _ (omega (arith, same-blocks)) refl)
 
-  pub counted-fine : n ≤ top → e .phys ≤ top - n → e .phys + n ≤ count → fine ≡ countedIn bs count e
+  pub counted-fine : n ≤ top → e .«phys_block» ≤ top - n → e .«phys_block» + n ≤ count → fine ≡ countedIn bs count e
   unfolding countedIn
   counted-fine k h l = at-most _ _ _ _ _ (omega (arith, same-blocks)) (at-most _ _ _ _ _ (omega (arith, same-blocks)) refl)
 
@@ -61,14 +61,14 @@ module _ (d : Disk) (p q m : ℕ) (y : m ≡ d .block) (pos : 0 < m) where
 
 -- the sums of `reach` fit, where the code found blocks of m bytes
 module _ (bs count : ℕ) (e : Extent) (r : Ruling) (p : ruled r ≡ countedIn bs count e) (q : r ≡ Fine) (m : ℕ) (y : m ≡ bs) (pos : 0 < m) where
-  counted-sum : e .phys + blocks m (e .len) ≤ top
+  counted-sum : e .«phys_block» + blocks m (e .len) ≤ top
   unfolding countedIn
   counted-sum = rw y (passed _ _ _ _ _ (sym p ∙ ap ruled q) .0)
 
-  pub sum-first : (a b : ℕ) → a < b → b ≤ e .len → e .phys + a / m ≤ top
+  pub sum-first : (a b : ℕ) → a < b → b ≤ e .len → e .«phys_block» + a / m ≤ top
   sum-first a b h k = omega (arith, counted-sum, block-below m pos a b h, blocks-mono m pos b (e .len) k)
 
-  pub sum-last : (b n : ℕ) → b ≤ e .len → n ≡ blocks m b → e .phys + n ≤ top
+  pub sum-last : (b n : ℕ) → b ≤ e .len → n ≡ blocks m b → e .«phys_block» + n ≤ top
   sum-last b n k w = omega (arith, counted-sum, blocks-mono m pos b (e .len) k)
 
 module _ (d : Disk) (e : Extent) (a b : ℕ) (r : Ruling) (p : ruled r ≡ countedIn (d .block) (d .count) e) where
@@ -76,11 +76,11 @@ module _ (d : Disk) (e : Extent) (a b : ℕ) (r : Ruling) (p : ruled r ≡ count
   unfolding reach
   reach-no x q = rw (← p, q)
 
-  pub reach-lies : (m n : ℕ) (v : Verdict) → m ≡ d .block → r ≡ Fine → n ≡ blocks m b → v ≡ lies d (e .phys + a / m) (e .phys + n) → v ≡ reach d e a b
+  pub reach-lies : (m n : ℕ) (v : Verdict) → m ≡ d .block → r ≡ Fine → n ≡ blocks m b → v ≡ lies d (e .«phys_block» + a / m) (e .«phys_block» + n) → v ≡ reach d e a b
   unfolding reach
   reach-lies m n v y q k h =
       let w : n ≡ blocks (d .block) b = rw y at k in
-      let u : v ≡ lies d (e .phys + a / d .block) (e .phys + blocks (d .block) b) = rw (y, w) at h in
+      let u : v ≡ lies d (e .«phys_block» + a / d .block) (e .«phys_block» + blocks (d .block) b) = rw (y, w) at h in
       rw (← p, q) u
 
 -- the answers of `allows`
@@ -94,11 +94,11 @@ module _ (d : Disk) (off stop : ℕ) (e : Extent) where
     unfolding allows
     allows-none k = at-most _ _ _ _ _ h (at-most _ _ _ _ _ (omega arith) refl)
 
-    pub allows-sparse : a < b → e .phys ≡ 0 → fine ≡ allows d off stop e
+    pub allows-sparse : a < b → e .«phys_block» ≡ 0 → fine ≡ allows d off stop e
     unfolding allows
     allows-sparse k z = at-most _ _ _ _ _ h (above _ _ _ _ _ (omega arith) (same _ _ _ _ _ z refl))
 
-    pub allows-reach : a < b → (e .phys ≡ 0 → ⊥) → (v : Verdict) → v ≡ reach d e (a - e .logical) (b - e .logical) → v ≡ allows d off stop e
+    pub allows-reach : a < b → (e .«phys_block» ≡ 0 → ⊥) → (v : Verdict) → v ≡ reach d e (a - e .logical) (b - e .logical) → v ≡ allows d off stop e
     unfolding allows
     allows-reach k z v w = at-most _ _ _ _ _ h (above _ _ _ _ _ (omega arith) (other _ _ _ _ _ z (rw (← p, ← q) w)))
 

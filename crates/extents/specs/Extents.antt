@@ -56,7 +56,7 @@ since off es = seek off es es
 -- document 01: "an extent ending past the block count is 2 where touched"
 unfoldable pub countedIn : ℕ → ℕ → Extent → Verdict
 countedIn bs count e =
-    let n : ℕ = e .phys + blocks bs (e .len) in
+    let n : ℕ = e .«phys_block» + blocks bs (e .len) in
     atMost n top Overflow (atMost n count Corrupt fine)
 
 abbrev pub counted : Disk → Extent → Verdict
@@ -68,7 +68,7 @@ lies d p q = atMost (p * d .block) top Overflow (atMost (q * d .block) (length (
 
 -- e's own bytes from its a-th up to its b-th can be read
 unfoldable pub reach : Disk → Extent → ℕ → ℕ → Verdict
-reach d e a b = counted d e >> lies d (e .phys + a / d .block) (e .phys + blocks (d .block) b)
+reach d e a b = counted d e >> lies d (e .«phys_block» + a / d .block) (e .«phys_block» + blocks (d .block) b)
 
 -- whether e's part of the file's bytes from off up to stop may be read; document 01: "physical block 0 skipped"
 unfoldable pub allows : Disk → ℕ → ℕ → Extent → Verdict
@@ -77,7 +77,7 @@ allows d off stop e =
     let b : ℕ = min stop (end e) in
     atMost (end e) top Overflow
     (ifLe b a fine
-    (ifEq (e .phys) 0 fine
+    (ifEq (e .«phys_block») 0 fine
     (reach d e (a - e .logical) (b - e .logical))))
 
 -- the loop of fs.rs, `read_extents_at`: it ends at an extent that starts at or past stop

@@ -61,10 +61,10 @@ pub fn counted_at(reader: Reader, e: Extent) -> Ruling
     ensures { λ r. ⌜ ruled r ≡ countedIn (max 1 (reader .«block_size»)) (reader .«block_count») e ⌝ }
 {
     let n = blocks_of(block_size(reader), e.len);
-    if 18446744073709551615 - n < e.phys {
+    if 18446744073709551615 - n < e.phys_block {
         return Ruling::No(Refusal::Overflow);
     }
-    if reader.block_count < e.phys + n {
+    if reader.block_count < e.phys_block + n {
         return Ruling::No(Refusal::Corrupt);
     }
     Ruling::Fine
@@ -95,7 +95,7 @@ fn reach_at(image: &[u8], reader: Reader, e: Extent, a: u64, b: u64) -> Ruling
     }
     let bs = block_size(reader);
     let last = blocks_of(bs, b);
-    lies_at(image, reader, e.phys + a / bs, e.phys + last)
+    lies_at(image, reader, e.phys_block + a / bs, e.phys_block + last)
 }
 
 // The extent's part of the file's bytes from off up to stop may be read.
@@ -110,7 +110,7 @@ fn allows_at(image: &[u8], reader: Reader, off: u64, stop: u64, e: Extent) -> Ru
     if b <= a {
         return Ruling::Fine;
     }
-    if e.phys == 0 {
+    if e.phys_block == 0 {
         return Ruling::Fine;
     }
     reach_at(image, reader, e, a - e.logical, b - e.logical)

@@ -43,7 +43,7 @@ module _ (d : Disk) (e : Extent) (i z : ℕ) where
   over-not (inl h) = sym (above _ _ _ _ _ h refl)
   over-not (inr h) = sym (at-most _ _ _ _ _ (omega arith) (at-most _ _ _ _ _ h refl))
 
-  pub over-sparse : e .phys ≤ 0 → over d i e z ≡ z
+  pub over-sparse : e .«phys_block» ≤ 0 → over d i e z ≡ z
   unfolding over
   over-sparse h = go (le-or-gt (e .logical) i) (le-or-gt (end e) i)
     where
@@ -52,7 +52,7 @@ module _ (d : Disk) (e : Extent) (i z : ℕ) where
       go (inl u) (inl v) = sym (at-most _ _ _ _ _ u (at-most _ _ _ _ _ v refl))
       go (inl u) (inr v) = sym (at-most _ _ _ _ _ u (above _ _ _ _ _ v (same _ _ _ _ _ (omega arith) refl)))
 
-  pub over-is : e .logical ≤ i → i < end e → 0 < e .phys → over d i e z ≡ getD (d .image) (e .phys * d .block + (i - e .logical)) 0
+  pub over-is : e .logical ≤ i → i < end e → 0 < e .«phys_block» → over d i e z ≡ getD (d .image) (e .«phys_block» * d .block + (i - e .logical)) 0
   unfolding over
   over-is h k p = sym (at-most _ _ _ _ _ h (above _ _ _ _ _ k (other _ _ _ _ _ (λ q. omega arith) refl)))
 
@@ -73,7 +73,7 @@ module _ (d : Disk) (off : ℕ) where
   lay-to e es b c l h =
       rw l (span-same _ _ off (length b) (λ k n. let q : off + k - off ≡ k = add-sub-cancel-left off k in rw (q, h k n)))
 
-  pub lay-skip : (e : Extent) (es : List Extent) (b : List ℕ) → (min (off + length b) (end e) ≤ max off (e .logical)) ⊎ (e .phys ≤ 0) → lay d off (e ∷ es) b ≡ lay d off es b
+  pub lay-skip : (e : Extent) (es : List Extent) (b : List ℕ) → (min (off + length b) (end e) ≤ max off (e .logical)) ⊎ (e .«phys_block» ≤ 0) → lay d off (e ∷ es) b ≡ lay d off es b
   lay-skip e es b (inr h) = lay-to e es b b refl (λ k n. over-sparse d e (off + k) _ h)
   lay-skip e es b (inl h) = lay-to e es b b refl (λ k n. over-not d e (off + k) _ (go k n (le-or-gt (e .logical) (off + k))))
     where
@@ -91,7 +91,7 @@ module _ (d : Disk) (off : ℕ) where
 
   -- a touched extent's bytes are pasted in
   pub lay-copy : (e : Extent) (es : List Extent) (b : List ℕ) (a f n : ℕ) → 0 < d .block → Touched off (off + length b) e → Sound d off (off + length b) e
-      → a ≡ max off (e .logical) → f ≡ e .phys * d .block + (a - e .logical) → a + n ≡ min (off + length b) (end e)
+      → a ≡ max off (e .logical) → f ≡ e .«phys_block» * d .block + (a - e .logical) → a + n ≡ min (off + length b) (end e)
       → lay d off (e ∷ es) b ≡ lay d off es (paste b (a - off) (drop f (d .image)) n)
   lay-copy e es b a f n pos t s qa qf qn =
       lay-to e es b (paste b (a - off) (drop f (d .image)) n) (length-paste b (a - off) (drop f (d .image)) n hb hs) (λ k l. go k l (le-or-gt a (off + k)) (le-or-gt (a + n) (off + k)))
@@ -109,7 +109,7 @@ module _ (d : Disk) (off : ℕ) where
       go k l (inr u) v = over-not d e (off + k) _ (inl (omega (arith, t .some))) ∙ sym (paste-before b (drop f (d .image)) (a - off) n k hb hs (omega (arith, t .some)))
       go k l (inl u) (inl v) = over-not d e (off + k) _ (inr (omega (arith, t .some))) ∙ sym (paste-after b (drop f (d .image)) (a - off) n k hb hs (omega (arith, t .some)))
       go k l (inl u) (inr v) =
-          let w : f + (k - (a - off)) ≡ e .phys * d .block + (off + k - e .logical) = omega (arith, t .some) in
+          let w : f + (k - (a - off)) ≡ e .«phys_block» * d .block + (off + k - e .logical) = omega (arith, t .some) in
           over-is d e (off + k) _ (omega (arith, t .some)) (omega (arith, t .some)) (t .real)
           ∙ sym (paste-in b (drop f (d .image)) (a - off) n k hb hs (omega (arith, t .some)) (omega (arith, t .some)) ∙ getD-drop f (d .image) (k - (a - off)) 0 ∙ rw w)
 

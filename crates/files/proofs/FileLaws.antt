@@ -27,7 +27,8 @@ use Rattle.extents.specs.Extents.{Disk, diskOf, start, inOrder, seek, since, de
 use Rattle.files.specs.Read.{span, bytes, readAt}
 use Rattle.files.specs.Inner.{lay, Ready, readOver, stopOf}
 use Rattle.extents.specs.Inner.{extentsIn, judgeOf, judgedTold, judgedOf}
-use Rattle.files.specs.File.{sizeOf, compressed, readFile, readTold}
+use Rattle.files.specs.File.{sizeOf, readFile, readTold}
+use Rattle.inode_record.specs.Inode.{compressed}
 use Rattle.extents.specs.declared.verdict.Ruling.the-variants.{Fine, No}
 use Rattle.extents.specs.declared.deciding.Judged.{Judged}
 use Rattle.files.specs.declared.read.FileRead.{FileRead}

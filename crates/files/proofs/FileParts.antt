@@ -14,7 +14,8 @@ use Rattle.inode_record.specs.declared.inode.Inode.{Inode}
 use Rattle.lists.specs.Lists.{extentsOf}
 use Rattle.extents.specs.Extents.{diskOf}
 use Rattle.files.specs.Read.{readAt, readAll}
-use Rattle.files.specs.File.{compressed, sizeOf, readFile, readPlain, readWhole}
+use Rattle.files.specs.File.{sizeOf, readFile, readPlain, readWhole}
+use Rattle.inode_record.specs.Inode.{compressed}
 use Rattle.files.proofs.ReadLaws.{read-part}
 
 module _ (b : List ℕ) (v : Volume) (i : Inode) (s : ℕ) where

@@ -38,11 +38,11 @@ module _ (d : Disk) (off stop : ℕ) (e : Extent) where
   pub sum-end : allows d off stop e ≡ fine → Fits w64 (end e)
   sum-end w = omega (arith, allowed-end d off stop e w)
 
-  module _ (a z m : ℕ) (w : allows d off stop e ≡ fine) (qa : a ≡ max off (e .logical)) (qz : z ≡ min stop (end e)) (h : a < z) (p : e .phys ≡ 0 → ⊥) (y : m ≡ d .block) (pos : 0 < m) where
+  module _ (a z m : ℕ) (w : allows d off stop e ≡ fine) (qa : a ≡ max off (e .logical)) (qz : z ≡ min stop (end e)) (h : a < z) (p : e .«phys_block» ≡ 0 → ⊥) (y : m ≡ d .block) (pos : 0 < m) where
     touched : Touched off stop e
     touched = record { some = omega arith; real = omega arith }
 
-    pub source : e .phys * m + (a - e .logical) + (z - a) ≤ length (d .image)
+    pub source : e .«phys_block» * m + (a - e .logical) + (z - a) ≤ length (d .image)
     source =
         let b : 0 < d .block = omega arith in
         rw y (omega (arith, reach-within d e _ _ b (allowed-sound d off stop e w touched)))
@@ -51,13 +51,13 @@ module _ (d : Disk) (off : ℕ) (e : Extent) (b : List ℕ) where
   pub lay-nothing : min (off + length b) (end e) ≤ max off (e .logical) → b ≡ lay d off (e ∷ []) b
   lay-nothing h = sym (lay-skip d off e [] b (inl h) ∙ lay-none d off b)
 
-  pub lay-sparse : e .phys ≡ 0 → b ≡ lay d off (e ∷ []) b
+  pub lay-sparse : e .«phys_block» ≡ 0 → b ≡ lay d off (e ∷ []) b
   lay-sparse h = sym (lay-skip d off e [] b (inr (omega arith)) ∙ lay-none d off b)
 
-  pub lay-pasted : (a z m : ℕ) (out : List ℕ) → allows d off (off + length b) e ≡ fine → a ≡ max off (e .logical) → z ≡ min (off + length b) (end e) → a < z → (e .phys ≡ 0 → ⊥)
-      → m ≡ d .block → 0 < m → out ≡ pasted b (a - off) (d .image) (e .phys * m + (a - e .logical)) (z - a) → out ≡ lay d off (e ∷ []) b
+  pub lay-pasted : (a z m : ℕ) (out : List ℕ) → allows d off (off + length b) e ≡ fine → a ≡ max off (e .logical) → z ≡ min (off + length b) (end e) → a < z → (e .«phys_block» ≡ 0 → ⊥)
+      → m ≡ d .block → 0 < m → out ≡ pasted b (a - off) (d .image) (e .«phys_block» * m + (a - e .logical)) (z - a) → out ≡ lay d off (e ∷ []) b
   unfolding pasted
   lay-pasted a z m out w qa qz h p y pos r =
       let k : 0 < d .block = omega arith in
       let t = touched d off (off + length b) e a z m w qa qz h p y pos in
-      (rw y at r) ∙ sym (lay-copy d off e [] b a (e .phys * d .block + (a - e .logical)) (z - a) k t (allowed-sound d off (off + length b) e w t) qa refl (omega arith) ∙ lay-none d off _)
+      (rw y at r) ∙ sym (lay-copy d off e [] b a (e .«phys_block» * d .block + (a - e .logical)) (z - a) k t (allowed-sound d off (off + length b) e w t) qa refl (omega arith) ∙ lay-none d off _)

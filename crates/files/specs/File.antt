@@ -1,11 +1,12 @@
 -- A read of a file. Document 01, fs.rs, `read_at`, and "Records", "Reads: ..".
-use Prim.Native.Nat.{ℕ, _/_, _%_}
+use Prim.Native.Nat.{ℕ}
 use mathlib.Core.List.{List}
 use Rattle.error.specs.Answer.{no, ifEq}
 use Rattle.error.specs.declared.Refusal.the-variants.{Unsupported}
 use Rattle.bytes.specs.Number.{told}
 use Rattle.lookup.specs.Counted.{Counted, after, onto}
 use Rattle.volume.specs.declared.Volume.{Volume}
+use Rattle.inode_record.specs.Inode.{compressed}
 use Rattle.inode_record.specs.declared.inode.Inode.{Inode}
 use Rattle.inode_record.specs.declared.fields.StreamField.{StreamField}
 use Rattle.inode_record.specs.declared.fields.StreamField.the-variants as stream
@@ -22,10 +23,6 @@ streamSize (stream.At s) = s .size
 -- "the size (0 without a data stream)"
 abbrev pub sizeOf : Inode → ℕ
 sizeOf i = streamSize (i .fields .stream)
-
--- UF_COMPRESSED, bit 0x20 (fs.rs, `is_compressed`)
-abbrev pub compressed : Inode → ℕ
-compressed i = i .owner .«bsd_flags» / 32 % 2
 
 -- "compressed is 3", before anything is read
 unfoldable pub readFile : List ℕ → Volume → Inode → ℕ → ℕ → ℕ → Counted (List ℕ)

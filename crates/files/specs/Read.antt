@@ -12,7 +12,7 @@ use Rattle.records.specs.declared.extent.Extent.{Extent}
 unfoldable pub over : Disk → ℕ → Extent → ℕ → ℕ
 over d i e z =
     ifLe (e .logical) i
-    (ifLe (end e) i z (ifEq (e .phys) 0 z (getD (d .image) (e .phys * d .block + (i - e .logical)) 0)))
+    (ifLe (end e) i z (ifEq (e .«phys_block») 0 z (getD (d .image) (e .«phys_block» * d .block + (i - e .logical)) 0)))
     z
 
 -- the same, once each of es is laid over what was there before

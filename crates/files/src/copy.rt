@@ -43,10 +43,10 @@ pub fn lay_at(image: &[u8], reader: Reader, off: u64, out: &mut [u8], e: Extent)
     if b <= a {
         return;
     }
-    if e.phys == 0 {
+    if e.phys_block == 0 {
         return;
     }
-    let from = e.phys * block_size(reader) + (a - e.logical);
+    let from = e.phys_block * block_size(reader) + (a - e.logical);
     paste_at(
         image,
         out,

@@ -21,7 +21,8 @@ use Rattle.records.specs.declared.attribute.AttributeData.{AttributeData}
 use Rattle.records.specs.declared.attribute.AttributeData.the-variants.{Embedded, Stream}
 use Rattle.records.specs.declared.attribute.StreamData.{StreamData}
 use Rattle.inode_record.specs.declared.inode.Inode.{Inode}
-use Rattle.files.specs.File.{compressed, sizeOf, readPlain}
+use Rattle.files.specs.File.{sizeOf, readPlain}
+use Rattle.inode_record.specs.Inode.{compressed}
 use Rattle.extents.specs.Ruling.{ruled}
 use Rattle.extents.specs.declared.verdict.Ruling.{Ruling}
 use Rattle.streams.specs.Streams.{settledTold, settledOf, streamOf}

@@ -17,7 +17,8 @@ use Rattle.records.specs.declared.attribute.StreamData.{StreamData}
 use Rattle.records.specs.declared.directory.Entry.{Entry}
 use Rattle.inode_record.specs.declared.inode.Inode.{Inode}
 use Rattle.lists.specs.Lists.{attributesOf, entriesOf}
-use Rattle.files.specs.File.{compressed, readPlain}
+use Rattle.files.specs.File.{readPlain}
+use Rattle.inode_record.specs.Inode.{compressed}
 use Rattle.streams.specs.Streams.{streamOf}
 use Rattle.links.specs.Link.{contentsOf}
 use Rattle.lines.specs.Shown.{inodeShown, attributeShown, plain}

@@ -24,8 +24,8 @@ fieldsTold (No e) = no e
 unfoldable pub streamField : List ℕ → Answer Fields
 streamField b =
     numberAt 8 b 0 >>= λ size.
-    numberAt 8 b 8 >>= λ alloced.
-    got (record { name = name.Absent; stream = stream.At (record { size = size; alloced = alloced }) })
+    numberAt 8 b 8 >>= λ «alloced_size».
+    got (record { name = name.Absent; stream = stream.At (record { size = size; «alloced_size» = «alloced_size» }) })
 
 abbrev pub noFields : Fields
 noFields = record { name = name.Absent; stream = stream.Absent }

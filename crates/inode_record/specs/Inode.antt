@@ -1,6 +1,6 @@
 -- Inodes. Apple File System Reference, "File-System Objects", j_inode_val_t; document 01, "Records": "An inode value has at least 82 bytes";
 -- the order of reading is that of fs.rs, `Inode::parse`.
-use Prim.Native.Nat.{ℕ, _-_, _^_}
+use Prim.Native.Nat.{ℕ, _-_, _/_, _%_, _^_}
 use mathlib.Core.List.{List}
 use lib.IntN.{ℤ, pos, _-ℤ_}
 use Rattle.error.specs.Answer.{Answer, got, no, _>>=_, ifLe}
@@ -90,3 +90,10 @@ inodeAt r b p id = inodeIn p id (valueOf r b p)
 -- "a name comes back as the part of the image that holds it", "up to the first zero byte"
 unfoldable pub inodeName : Reader → List ℕ → Place → Span → List ℕ
 inodeName r b p s = upToZero (partOf (valueOf r b p) s)
+
+-- UF_COMPRESSED, bit 0x20 of the BSD flags: 1 where a file is compressed (fs.rs, `is_compressed`)
+abbrev pub compressedBit : ℕ → ℕ
+compressedBit flags = flags / 32 % 2
+
+abbrev pub compressed : Inode → ℕ
+compressed i = compressedBit (i .owner .«bsd_flags»)

@@ -14,7 +14,7 @@ ghost use Rattle.inode_record.specs.Fields.{fieldsTold, streamField, fie
 
 pub struct Dstream {
     pub size: u64,
-    pub alloced: u64,
+    pub alloced_size: u64,
 }
 
 // The name is a part of the record's value.
@@ -45,7 +45,7 @@ fn stream_field(b: &[u8]) -> FieldsRead
         Number::Got(x) => x,
         Number::No(e) => return FieldsRead::No(e),
     };
-    let alloced = match u64_at(b, 8) {
+    let alloced_size = match u64_at(b, 8) {
         Number::Got(x) => x,
         Number::No(e) => return FieldsRead::No(e),
     };
@@ -53,7 +53,7 @@ fn stream_field(b: &[u8]) -> FieldsRead
         name: NameField::Absent,
         stream: StreamField::At(Dstream {
             size: size,
-            alloced: alloced,
+            alloced_size: alloced_size,
         }),
     })
 }

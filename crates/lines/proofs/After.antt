@@ -85,11 +85,11 @@ contents-append (plain d) x = ap (ascii "(data") (words-append (hex d ∷ []) (4
 
 pub entry-append : (e : EntryShown) (x : List ℕ) → entryLine e x ≡ entryLine e [] ++ x
 unfolding entryLine
-entry-append e x = ap (ascii "(entry") (words-append (num (e .id) ∷ num (e .date) ∷ num (e .kind) ∷ hex (e .label) ∷ []) (10 ∷ []) x)
+entry-append e x = ap (ascii "(entry") (words-append (num (e .id) ∷ num (e .«date_added») ∷ num (e .kind) ∷ hex (e .label) ∷ []) (10 ∷ []) x)
 
 pub extent-append : (e : Extent) (x : List ℕ) → extentLine e x ≡ extentLine e [] ++ x
 unfolding extentLine
-extent-append e x = ap (ascii "(extent") (words-append (num (e .logical) ∷ num (e .len) ∷ num (e .phys) ∷ []) (41 ∷ 10 ∷ []) x)
+extent-append e x = ap (ascii "(extent") (words-append (num (e .logical) ∷ num (e .len) ∷ num (e .«phys_block») ∷ []) (41 ∷ 10 ∷ []) x)
 
 pub close-append : (x : List ℕ) → close x ≡ close [] ++ x
 unfolding close

@@ -53,7 +53,7 @@ streamed-line : attributeLine (record { flags = 1; label = 97 ∷ []; form = str
 unfolding attributeLine formText digits places glyph pairs
 streamed-line = refl
 
-entry-and-extent : entryLine (record { id = 16; date = 3; kind = 4; label = 98 ∷ [] }) (extentLine (record { logical = 0; len = 4096; phys = 77 }) (contentsLine packed []))
+entry-and-extent : entryLine (record { id = 16; «date_added» = 3; kind = 4; label = 98 ∷ [] }) (extentLine (record { logical = 0; len = 4096; «phys_block» = 77 }) (contentsLine packed []))
     ≡ ascii "(entry 16 3 4 x62\n(extent 0 4096 77)\n(packed)\n" []
 unfolding entryLine extentLine contentsLine digits places glyph pairs
 entry-and-extent = refl

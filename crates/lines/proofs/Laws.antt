@@ -100,7 +100,7 @@ module _ (room : ℕ) (o z : Output) where
     pub stream-absent : s ≡ stream.Absent → z ≡ puts room (ascii " -" []) o → z ≡ puts room (words (two? (streamShown s) ∷ []) []) o
     stream-absent e h = rw e h
 
-    pub stream-at : (d : Dstream) → s ≡ stream.At d → z ≡ puts room (words (digits (d .size) ∷ []) (ascii "," (digits (d .alloced) []))) o → z ≡ puts room (words (two? (streamShown s) ∷ []) []) o
+    pub stream-at : (d : Dstream) → s ≡ stream.At d → z ≡ puts room (words (digits (d .size) ∷ []) (ascii "," (digits (d .«alloced_size») []))) o → z ≡ puts room (words (two? (streamShown s) ∷ []) []) o
     stream-at d e h = rw e h
 
   module _ (a : AttributeData) where

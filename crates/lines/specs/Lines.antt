@@ -39,11 +39,11 @@ contentsLine (plain d) x = ascii "(data" (words (bytes d ∷ []) (ascii ")\n" x)
 
 -- `(entry ID DATE KIND NAME`
 unfoldable pub entryLine : EntryShown → List ℕ → List ℕ
-entryLine e x = ascii "(entry" (words (digits (e .id) ∷ digits (e .date) ∷ digits (e .kind) ∷ bytes (e .label) ∷ []) (ascii "\n" x))
+entryLine e x = ascii "(entry" (words (digits (e .id) ∷ digits (e .«date_added») ∷ digits (e .kind) ∷ bytes (e .label) ∷ []) (ascii "\n" x))
 
 -- `(extent LOGICAL LENGTH BLOCK)`, in the listing's notation
 unfoldable pub extentLine : Extent → List ℕ → List ℕ
-extentLine e x = ascii "(extent" (words (digits (e .logical) ∷ digits (e .len) ∷ digits (e .phys) ∷ []) (ascii ")\n" x))
+extentLine e x = ascii "(extent" (words (digits (e .logical) ∷ digits (e .len) ∷ digits (e .«phys_block») ∷ []) (ascii ")\n" x))
 
 -- "Then `)`"
 unfoldable pub close : List ℕ → List ℕ

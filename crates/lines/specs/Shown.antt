@@ -41,7 +41,7 @@ pub record InodeShown : Type 0 where
 -- "Entries go by ID, DATE, KIND and NAME"
 pub record EntryShown : Type 0 where
   pub id : ℕ
-  pub date : ℕ
+  pub «date_added» : ℕ
   pub kind : ℕ
   pub label : List ℕ
 
@@ -70,7 +70,7 @@ nameShown r b p (name.At s) = some (lossy (inodeName r b p s))
 -- "STREAM is size, comma, allocated size"
 abbrev pub streamShown : StreamField → Option (ℕ × ℕ)
 streamShown stream.Absent = none
-streamShown (stream.At d) = some (d .size, d .alloced)
+streamShown (stream.At d) = some (d .size, d .«alloced_size»)
 
 -- what a node's line shows: "inode fields are those on the node's line"
 unfoldable pub inodeShown : Reader → List ℕ → Inode → InodeShown
@@ -94,7 +94,7 @@ inodeShown r b i = record {
 
 -- "KIND is the stored 4-bit kind", "LABEL and NAME are lossy readings"
 unfoldable pub entryShown : Reader → List ℕ → Entry → EntryShown
-entryShown r b e = record { id = e .id; date = e .date; kind = e .kind; label = lossy (entryName r b e) }
+entryShown r b e = record { id = e .«file_id»; «date_added» = e .«date_added»; kind = e .kind; label = lossy (entryName r b e) }
 
 -- "`(attr FLAGS NAME e DATA)` or `(attr FLAGS NAME s OBJECT DATA)`"
 abbrev pub formShown : AttributeData → Form

@@ -76,7 +76,7 @@ fn put_stream(out: &mut [u8], room: usize, p: Position, stream: StreamField) -> 
 {
     match stream {
         StreamField::Absent => put_all(out, room, p, b" -"),
-        StreamField::At(d) => put_pair(out, room, p, d.size, d.alloced),
+        StreamField::At(d) => put_pair(out, room, p, d.size, d.alloced_size),
     }
 }
 

@@ -26,11 +26,17 @@ fn bit_of(b: bool) -> u64
     0
 }
 
-fn put_rule(out: &mut [u8], room: usize, p: Position, caseless: bool, normless: bool) -> Position
-    ensures { λ r. ⌜ outputOf r (now (out .exit)) ≡ puts room (words (digits (bit caseless) ∷ digits (bit normless) ∷ []) []) (outputOf p (now (out .entry))) ⌝ }
+fn put_rule(
+    out: &mut [u8],
+    room: usize,
+    p: Position,
+    case_insensitive: bool,
+    normalization_insensitive: bool,
+) -> Position
+    ensures { λ r. ⌜ outputOf r (now (out .exit)) ≡ puts room (words (digits (bit «case_insensitive») ∷ digits (bit «normalization_insensitive») ∷ []) []) (outputOf p (now (out .entry))) ⌝ }
 {
-    let q = put_number(out, room, p, bit_of(caseless));
-    put_number(out, room, q, bit_of(normless))
+    let q = put_number(out, room, p, bit_of(case_insensitive));
+    put_number(out, room, q, bit_of(normalization_insensitive))
 }
 
 // Whether case and normalization are insensitive, and the label's stored bytes.
@@ -38,14 +44,14 @@ pub fn put_volume_line(
     out: &mut [u8],
     room: usize,
     p: Position,
-    caseless: bool,
-    normless: bool,
+    case_insensitive: bool,
+    normalization_insensitive: bool,
     label: &[u8],
 ) -> Position
-    ensures { λ r. ⌜ outputOf r (now (out .exit)) ≡ puts room (volumeLine caseless normless (lossy (now (label .entry))) []) (outputOf p (now (out .entry))) ⌝ }
+    ensures { λ r. ⌜ outputOf r (now (out .exit)) ≡ puts room (volumeLine «case_insensitive» «normalization_insensitive» (lossy (now (label .entry))) []) (outputOf p (now (out .entry))) ⌝ }
 {
     let a = put_all(out, room, p, b"(volume");
-    let b = put_rule(out, room, a, caseless, normless);
+    let b = put_rule(out, room, a, case_insensitive, normalization_insensitive);
     let c = put_name(out, room, b, label);
     put_byte(out, room, c, b'\n')
 }
@@ -61,7 +67,7 @@ pub fn put_entry_line(
     ensures { λ r. ⌜ outputOf r (now (out .exit)) ≡ puts room (entryLine (entryShown reader (now (image .entry)) e) []) (outputOf p (now (out .entry))) ⌝ }
 {
     let a = put_all(out, room, p, b"(entry");
-    let b = put_three(out, room, a, e.id, e.date, e.kind as u64);
+    let b = put_three(out, room, a, e.file_id, e.date_added, e.kind as u64);
     let c = put_name(out, room, b, entry_name(reader, image, e));
     put_byte(out, room, c, b'\n')
 }
@@ -70,6 +76,6 @@ pub fn put_extent_line(out: &mut [u8], room: usize, p: Position, e: Extent) -> P
     ensures { λ r. ⌜ outputOf r (now (out .exit)) ≡ puts room (extentLine e []) (outputOf p (now (out .entry))) ⌝ }
 {
     let a = put_all(out, room, p, b"(extent");
-    let b = put_three(out, room, a, e.logical, e.len, e.phys);
+    let b = put_three(out, room, a, e.logical, e.len, e.phys_block);
     put_all(out, room, b, b")\n")
 }

@@ -33,13 +33,13 @@ pub record Feeds (raw : Bool) (room : ℕ) (r : Feed) (c x : List ℕ) (f : Feed
   pub as-one : (xs : List ℕ) → fedAs raw room r c (x ++ xs) ≡ fedAs raw room f b (y ++ xs)
 
 module _ (raw : Bool) (room : ℕ) (f r : Feed) (b c xs : List ℕ) (d : Disk) (e : Extent) (n : ℕ) where
-  pub zeros-taken : e .phys ≡ 0 → ((ys : List ℕ) → fedAs raw room r c ys ≡ fedAs raw room f b (replicate n 0 ++ ys)) → fedAs raw room r c xs ≡ fedAs raw room f b (taken d e n ++ xs)
+  pub zeros-taken : e .«phys_block» ≡ 0 → ((ys : List ℕ) → fedAs raw room r c ys ≡ fedAs raw room f b (replicate n 0 ++ ys)) → fedAs raw room r c xs ≡ fedAs raw room f b (taken d e n ++ xs)
   zeros-taken h k = rw (taken-sparse d e n h) (k xs)
 
-  pub part-taken : (k : ℕ) (x : List ℕ) → (e .phys ≡ 0 → ⊥) → k ≡ min (e .phys * d .block) (length (d .image)) → x ≡ partOf (d .image) (record { start = k; len = n })
+  pub part-taken : (k : ℕ) (x : List ℕ) → (e .«phys_block» ≡ 0 → ⊥) → k ≡ min (e .«phys_block» * d .block) (length (d .image)) → x ≡ partOf (d .image) (record { start = k; len = n })
       → ((ys : List ℕ) → fedAs raw room r c ys ≡ fedAs raw room f b (x ++ ys)) → fedAs raw room r c xs ≡ fedAs raw room f b (taken d e n ++ xs)
   unfolding partOf
-  part-taken k x h p q g = rw (taken-real d e n h) (rw (q, p, drop-least (e .phys * d .block) (d .image)) at (g xs))
+  part-taken k x h p q g = rw (taken-real d e n h) (rw (q, p, drop-least (e .«phys_block» * d .block) (d .image)) at (g xs))
 
 module _ (raw : Bool) (room : ℕ) (f : Feed) (b xs : List ℕ) (d : Disk) (size pos : ℕ) (e : Extent) where
   pub step-none : size ≤ pos → fedAs raw room f b xs ≡ fedAs raw room f b (stepBytes d size pos e ++ xs)

@@ -40,11 +40,11 @@ fn push_taken(
 ) -> Feed
     ensures { λ r. ⌜ ((xs : List ℕ) → fedAs raw room r (now (out .exit)) xs ≡ fedAs raw room f (now (out .entry)) (taken (diskOf reader (now (image .entry))) e n ++ xs)) ⌝ }
 {
-    if e.phys == 0 {
+    if e.phys_block == 0 {
         return feed_zeros(out, room, raw, f, n);
     }
     let span = Span {
-        start: begins(image, reader, e.phys),
+        start: begins(image, reader, e.phys_block),
         len: n as usize,
     };
     feed_all(out, room, raw, f, part(image, span))

@@ -101,10 +101,10 @@ module _ (room : ℕ) (form : ℕ → Trace) (b : List ℕ) (v : Volume) (e : En
   entry-stopped w k =
       sym (run-refused room _ w) ∙ ap (run room _) (k ∙ run-says room (entryLine (entryShown (v .reader) b e) []) o p h) ∙ sym (run-then room _ _ o)
 
-  pub entry-whole : (x z : Output) → x ≡ run room (form (e .id)) p → z ≡ puts room (ascii ")\n" []) x → z ≡ run room (entryForm form (entryShown (v .reader) b e)) o
+  pub entry-whole : (x z : Output) → x ≡ run room (form (e .«file_id»)) p → z ≡ puts room (ascii ")\n" []) x → z ≡ run room (entryForm form (entryShown (v .reader) b e)) o
   unfolding entryForm entryShown close
   entry-whole x z f g =
-      run-says room (close []) x z g ∙ ap (run room (says (close []))) (f ∙ ap (run room (form (e .id))) (run-says room (entryLine (entryShown (v .reader) b e) []) o p h))
+      run-says room (close []) x z g ∙ ap (run room (says (close []))) (f ∙ ap (run room (form (e .«file_id»))) (run-says room (entryLine (entryShown (v .reader) b e) []) o p h))
       ∙ sym (run-then room _ _ o ∙ run-then room _ _ _)
 
 pub entry-refused : (room : ℕ) (form : ℕ → Trace) (b : List ℕ) (v : Volume) (e : Entry) (o : Output) (a : Position) (l : List ℕ) (w : Refusal)

@@ -18,7 +18,8 @@ use Rattle.records.specs.declared.directory.Entry.{Entry}
 use Rattle.records.specs.declared.attribute.Attribute.{Attribute}
 use Rattle.inode_record.specs.declared.inode.Inode.{Inode}
 use Rattle.lists.specs.Lists.{searchOf, inodeOf, attributesOf, entriesOf}
-use Rattle.files.specs.File.{compressed, readWhole}
+use Rattle.files.specs.File.{readWhole}
+use Rattle.inode_record.specs.Inode.{compressed}
 use Rattle.links.specs.Link.{contentsOf}
 use Rattle.contents.proofs.Plain.{plain-whole}
 use Rattle.lines.specs.Shown.{InodeShown, EntryShown, AttributeShown, inodeShown, entryShown, attributeShown, plain}

@@ -35,10 +35,10 @@ use Rattle.forms.proofs.Running.{run-says, run-then}
 use Rattle.listing.specs.Listed.{listedOf}
 
 pub listing-whole : (room : ℕ) (b : List ℕ) (v : Volume) (o p x z : Output) (k : NameRule) (l : List ℕ) (n : ℕ) → k ≡ ruleOf v → l ≡ labelOf b v → n ≡ levels
-    → p ≡ puts room (volumeLine (k .caseless) (k .normless) (lossy l) []) o → x ≡ run room (nodeForm (viewOf b v) n 2) p → z ≡ puts room (ascii ")\n" []) x → z ≡ run room (trace (viewOf b v)) o
+    → p ≡ puts room (volumeLine (k .«case_insensitive») (k .«normalization_insensitive») (lossy l) []) o → x ≡ run room (nodeForm (viewOf b v) n 2) p → z ≡ puts room (ascii ")\n" []) x → z ≡ run room (trace (viewOf b v)) o
 unfolding trace labelShown close
 listing-whole room b v o p x z k l n e f m g h j =
-    let line : p ≡ puts room (volumeLine (ruleOf v .caseless) (ruleOf v .normless) (lossy (labelOf b v)) []) o = rw (e, f) at g in
+    let line : p ≡ puts room (volumeLine (ruleOf v .«case_insensitive») (ruleOf v .«normalization_insensitive») (lossy (labelOf b v)) []) o = rw (e, f) at g in
     let root : x ≡ run room (nodeForm (viewOf b v) levels 2) p = rw m at h in
     run-says room (close []) x z j ∙ ap (run room (says (close []))) (root ∙ ap (run room (nodeForm (viewOf b v) levels 2)) (run-says room _ o p line))
     ∙ sym (run-then room _ _ o ∙ run-then room _ _ _)

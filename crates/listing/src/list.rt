@@ -31,8 +31,8 @@ fn put_listing(out: &mut [u8], image: &[u8], v: Volume) -> Position
         out,
         room,
         Position::At(0),
-        rule.caseless,
-        rule.normless,
+        rule.case_insensitive,
+        rule.normalization_insensitive,
         label,
     );
     let b = put_node(out, room, a, image, v, 2, levels());

@@ -78,6 +78,6 @@ fn put_entry(
     if let Position::No(w) = a {
         return Position::No(w);
     }
-    let b = put_node(out, room, a, image, v, e.id, levels);
+    let b = put_node(out, room, a, image, v, e.file_id, levels);
     put_all(out, room, b, b")\n")
 }

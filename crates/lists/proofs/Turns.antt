@@ -26,7 +26,8 @@ use Rattle.records.specs.declared.attribute.Attribute.{Attribute}
 use Rattle.records.specs.declared.attribute.AttributeRead.{AttributeRead}
 use Rattle.records.specs.declared.extent.Extent.{Extent}
 use Rattle.records.specs.declared.extent.ExtentRead.{ExtentRead}
-use Rattle.lists.specs.Lists.{searchOf, listOf, placed, entriesOf, attributesOf, extentsOf, compressed, fileExtents}
+use Rattle.lists.specs.Lists.{searchOf, listOf, placed, entriesOf, attributesOf, extentsOf, fileExtents}
+use Rattle.inode_record.specs.Inode.{compressed}
 use Rattle.lists.specs.Inner.{kept}
 use Rattle.lists.specs.Told.{entryPlaced, entryFound, attributePlaced, attributeFound, extentPlaced, extentFound}
 use Rattle.lists.specs.declared.entries.EntryAt.{EntryAt}

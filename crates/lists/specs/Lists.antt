@@ -1,6 +1,6 @@
 -- The lists of a volume: its inodes, directory entries, attributes and extents. Document 01, fs.rs: "Lists come an element a call, by place, the
 -- whole list read first; past its end is "none""; fs.rs, `records`, `inode`, `read_dir`, `xattrs`, `extents`.
-use Prim.Native.Nat.{ℕ, zero, suc, _/_, _%_}
+use Prim.Native.Nat.{ℕ, zero, suc}
 use mathlib.Core.List.{List, [], _∷_}
 use mathlib.Core.Option.{Option, some}
 use mathlib.Core.Option as option
@@ -15,7 +15,7 @@ use Rattle.volume.specs.declared.Volume.{Volume}
 use Rattle.records.specs.Directory.{entryAt}
 use Rattle.records.specs.Attribute.{attributeAt}
 use Rattle.records.specs.Extent.{extentAt}
-use Rattle.inode_record.specs.Inode.{inodeAt}
+use Rattle.inode_record.specs.Inode.{compressed, inodeAt}
 use Rattle.records.specs.declared.directory.Entry.{Entry}
 use Rattle.records.specs.declared.attribute.Attribute.{Attribute}
 use Rattle.records.specs.declared.extent.Extent.{Extent}
@@ -65,10 +65,6 @@ elementAt (suc k) (x ∷ xs) = elementAt k xs
 -- an element by its place, the whole list read first
 abbrev pub placed : {A : Type 0} → ℕ → Counted (List A) → Counted (Option A)
 placed k c = onto c λ xs t. after t (got (elementAt k xs))
-
--- 1 where a file is compressed: UF_COMPRESSED, bit 0x20 (fs.rs, `is_compressed`)
-abbrev pub compressed : Inode → ℕ
-compressed i = i .owner .«bsd_flags» / 32 % 2
 
 -- document 01: "`file_extents` gives them as stored"; of a compressed file it is 3 (fs.rs, `file_extents`)
 unfoldable pub fileExtents : List ℕ → Volume → Inode → ℕ → ℕ → Counted (Option Extent)

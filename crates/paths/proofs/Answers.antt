@@ -36,7 +36,7 @@ module _ {A B : Type 0} (g : A → B) (name : A → List ℕ) (label : B → Lis
   key-map : (es : List A) → keyMatch rule label p (map g es) ≡ shown (keyMatch rule name p es)
   unfolding keyMatch
   key-map [] = refl
-  key-map (e ∷ es) = rw (same e) (of (key-map es) (wide (name e)) (sameKeys (rule .caseless) (rule .normless) p (name e)))
+  key-map (e ∷ es) = rw (same e) (of (key-map es) (wide (name e)) (sameKeys (rule .«case_insensitive») (rule .«normalization_insensitive») p (name e)))
     where
       of : keyMatch rule label p (map g es) ≡ shown (keyMatch rule name p es) → (d t : Bool)
           → pick d (no CharacterNotCovered) (pick t (got (g e)) (keyMatch rule label p (map g es))) ≡ shown (pick d (no CharacterNotCovered) (pick t (got e) (keyMatch rule name p es)))
@@ -57,7 +57,7 @@ module _ {A B : Type 0} (g : A → B) (name : A → List ℕ) (label : B → Lis
 module _ (rule : NameRule) (name : Entry → List ℕ) (entries : ℕ → Answer (List Entry)) (inode : ℕ → Answer Inode) where
   unfoldable pub walkAnswers : Answer Inode → List (List ℕ) → Answer Inode
   walkAnswers a [] = a
-  walkAnswers a (p ∷ ps) = walkAnswers (a >>= λ f. entries (f .id) >>= λ es. findEntry rule name p es >>= λ e. inode (e .id)) ps
+  walkAnswers a (p ∷ ps) = walkAnswers (a >>= λ f. entries (f .id) >>= λ es. findEntry rule name p es >>= λ e. inode (e .«file_id»)) ps
 
 module _ (b : List ℕ) (v : Volume) (entries : ℕ → Answer (List Entry)) (inode : ℕ → Answer Inode)
     (entries-are : (id s : ℕ) → entriesOf b v id s .answer ≡ entries id) (inode-is : (id s : ℕ) → inodeOf b v id s .answer ≡ inode id) where
@@ -69,15 +69,15 @@ module _ (b : List ℕ) (v : Volume) (entries : ℕ → Answer (List Entry)) (in
       of n (got es) = refl
       of n (no w) = refl
 
-  part-answer : (p : List ℕ) (id s : ℕ) → partInode b v p id s .answer ≡ (entries id >>= λ es. findEntry (ruleOf v) (nameRead (v .reader) b) p es >>= λ e. inode (e .id))
+  part-answer : (p : List ℕ) (id s : ℕ) → partInode b v p id s .answer ≡ (entries id >>= λ es. findEntry (ruleOf v) (nameRead (v .reader) b) p es >>= λ e. inode (e .«file_id»))
   unfolding partInode
-  part-answer p id s = of (entryIn b v id p s .nodes) (entryIn b v id p s .answer) ∙ ap (λ (a : Answer Entry). a >>= λ e. inode (e .id)) (entry-answer id p s) ∙ joined (entries id)
+  part-answer p id s = of (entryIn b v id p s .nodes) (entryIn b v id p s .answer) ∙ ap (λ (a : Answer Entry). a >>= λ e. inode (e .«file_id»)) (entry-answer id p s) ∙ joined (entries id)
     where
-      of : (n : ℕ) (a : Answer Entry) → (onto (after n a) λ e t. inodeOf b v (e .id) t) .answer ≡ (a >>= λ e. inode (e .id))
-      of n (got e) = inode-is (e .id) n
+      of : (n : ℕ) (a : Answer Entry) → (onto (after n a) λ e t. inodeOf b v (e .«file_id») t) .answer ≡ (a >>= λ e. inode (e .«file_id»))
+      of n (got e) = inode-is (e .«file_id») n
       of n (no w) = refl
 
-      joined : (a : Answer (List Entry)) → ((a >>= λ es. findEntry (ruleOf v) (nameRead (v .reader) b) p es) >>= λ e. inode (e .id)) ≡ (a >>= λ es. findEntry (ruleOf v) (nameRead (v .reader) b) p es >>= λ e. inode (e .id))
+      joined : (a : Answer (List Entry)) → ((a >>= λ es. findEntry (ruleOf v) (nameRead (v .reader) b) p es) >>= λ e. inode (e .«file_id»)) ≡ (a >>= λ es. findEntry (ruleOf v) (nameRead (v .reader) b) p es >>= λ e. inode (e .«file_id»))
       joined (got es) = refl
       joined (no w) = refl
 
@@ -86,7 +86,7 @@ module _ (b : List ℕ) (v : Volume) (entries : ℕ → Answer (List Entry)) (in
   walk-answers c [] = refl
   walk-answers c (p ∷ ps) = walk-answers _ ps ∙ ap (λ (a : Answer Inode). walkAnswers (ruleOf v) (nameRead (v .reader) b) entries inode a ps) (of (c .nodes) (c .answer))
     where
-      of : (n : ℕ) (a : Answer Inode) → (onto (after n a) λ f t. partInode b v p (f .id) t) .answer ≡ (a >>= λ f. entries (f .id) >>= λ es. findEntry (ruleOf v) (nameRead (v .reader) b) p es >>= λ e. inode (e .id))
+      of : (n : ℕ) (a : Answer Inode) → (onto (after n a) λ f t. partInode b v p (f .id) t) .answer ≡ (a >>= λ f. entries (f .id) >>= λ es. findEntry (ruleOf v) (nameRead (v .reader) b) p es >>= λ e. inode (e .«file_id»))
       of n (got f) = part-answer p (f .id) n
       of n (no w) = refl
 

@@ -25,7 +25,7 @@ module _ (rule : NameRule) (name p : List ℕ) (e : Entry) (k : Bool) (h : k ≡
   unfolding byKey
   key-wide t = picked _ _ _ _ (wide-reading name ∙ sym h ∙ t) refl
 
-  pub key-ascii : (z : Choice) → k ≡ false → z ≡ pick (sameKeys (rule .caseless) (rule .normless) p name) (Keyed e) Open → z ≡ byKey rule (lossy name) p e
+  pub key-ascii : (z : Choice) → k ≡ false → z ≡ pick (sameKeys (rule .«case_insensitive») (rule .«normalization_insensitive») p name) (Keyed e) Open → z ≡ byKey rule (lossy name) p e
   unfolding byKey
   key-ascii z t g =
       let w : wide name ≡ false = sym h ∙ t in
@@ -85,7 +85,7 @@ module _ (rule : NameRule) (name : Entry → List ℕ) (p : List ℕ) where
 
   key-next : (e : Entry) (es : List Entry) → chosen (byKey rule (name e) p e) es ≡ exactMatch name p es (keyMatch rule name p (e ∷ es))
   unfolding chosen byKey keyMatch
-  key-next e es = of (wide (name e)) (sameKeys (rule .caseless) (rule .normless) p (name e))
+  key-next e es = of (wide (name e)) (sameKeys (rule .«case_insensitive») (rule .«normalization_insensitive») p (name e))
     where
       of : (d t : Bool) → chosen (pick d (No CharacterNotCovered) (pick t (Keyed e) Open)) es ≡ exactMatch name p es (pick d (no CharacterNotCovered) (pick t (got e) (keyMatch rule name p es)))
       of true t = refl

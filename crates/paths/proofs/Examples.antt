@@ -54,7 +54,7 @@ key-cased = refl
 
 -- entries 0 to 3 of a directory, by their ids: "A", "a", "a", and "ä"
 entry : ℕ → Entry
-entry n = record { place = record { block = 0; key = record { start = 0; len = 0 }; value = record { start = 0; len = 0 } }; name = record { start = 0; len = 0 }; id = n; date = 0; kind = 8 }
+entry n = record { place = record { block = 0; key = record { start = 0; len = 0 }; value = record { start = 0; len = 0 } }; name = record { start = 0; len = 0 }; «file_id» = n; «date_added» = 0; kind = 8 }
 
 named : ℕ → List ℕ
 named zero = 65 ∷ []
@@ -63,53 +63,53 @@ named (suc (suc zero)) = 97 ∷ []
 named (suc (suc (suc n))) = 0xC3 ∷ 0xA4 ∷ []
 
 nameOf : Entry → List ℕ
-nameOf e = named (e .id)
+nameOf e = named (e .«file_id»)
 
-caseless : NameRule
-caseless = record { caseless = true; normless = false }
+«case_insensitive» : NameRule
+«case_insensitive» = record { «case_insensitive» = true; «normalization_insensitive» = false }
 
-normless : NameRule
-normless = record { caseless = false; normless = true }
+«normalization_insensitive» : NameRule
+«normalization_insensitive» = record { «case_insensitive» = false; «normalization_insensitive» = true }
 
 sensitive : NameRule
-sensitive = record { caseless = false; normless = false }
+sensitive = record { «case_insensitive» = false; «normalization_insensitive» = false }
 
 -- an exactly equal name comes before an earlier one with an equal key, and the first of two exactly equal names is taken
-exact-first : findEntry caseless nameOf (97 ∷ []) (entry 0 ∷ entry 1 ∷ entry 2 ∷ []) ≡ got (entry 1)
+exact-first : findEntry «case_insensitive» nameOf (97 ∷ []) (entry 0 ∷ entry 1 ∷ entry 2 ∷ []) ≡ got (entry 1)
 unfolding findEntry exactMatch sameBytes ifEq nameOf named entry
 exact-first = refl
 
 -- an exactly equal name is taken behind one that is not covered, and may itself not be covered
-exact-behind : findEntry caseless nameOf (97 ∷ []) (entry 3 ∷ entry 1 ∷ []) ≡ got (entry 1)
+exact-behind : findEntry «case_insensitive» nameOf (97 ∷ []) (entry 3 ∷ entry 1 ∷ []) ≡ got (entry 1)
 unfolding findEntry exactMatch sameBytes ifEq nameOf named entry
 exact-behind = refl
 
-exact-wide : findEntry caseless nameOf (0xC3 ∷ 0xA4 ∷ []) (entry 0 ∷ entry 3 ∷ []) ≡ got (entry 3)
+exact-wide : findEntry «case_insensitive» nameOf (0xC3 ∷ 0xA4 ∷ []) (entry 0 ∷ entry 3 ∷ []) ≡ got (entry 3)
 unfolding findEntry exactMatch sameBytes ifEq nameOf named entry
 exact-wide = refl
 
 -- else the first with an equal key, before one that is not covered
-keyed : findEntry caseless nameOf (65 ∷ []) (entry 1 ∷ entry 2 ∷ entry 3 ∷ []) ≡ got (entry 1)
-unfolding findEntry exactMatch keyMatch sameKeys foldedKey folded lower wide sameBytes ifEq ifLe nameOf named entry caseless
+keyed : findEntry «case_insensitive» nameOf (65 ∷ []) (entry 1 ∷ entry 2 ∷ entry 3 ∷ []) ≡ got (entry 1)
+unfolding findEntry exactMatch keyMatch sameKeys foldedKey folded lower wide sameBytes ifEq ifLe nameOf named entry «case_insensitive»
 keyed = refl
 
 -- 9 behind one that is not covered
-keyed-behind : findEntry caseless nameOf (65 ∷ []) (entry 3 ∷ entry 1 ∷ []) ≡ no CharacterNotCovered
-unfolding findEntry exactMatch keyMatch sameKeys foldedKey folded lower wide sameBytes ifEq ifLe nameOf named entry caseless
+keyed-behind : findEntry «case_insensitive» nameOf (65 ∷ []) (entry 3 ∷ entry 1 ∷ []) ≡ no CharacterNotCovered
+unfolding findEntry exactMatch keyMatch sameKeys foldedKey folded lower wide sameBytes ifEq ifLe nameOf named entry «case_insensitive»
 keyed-behind = refl
 
 -- where only normalization does not count, case does, and 9 is met all the same
-cased : findEntry normless nameOf (65 ∷ []) (entry 1 ∷ entry 2 ∷ []) ≡ no NotFound
-unfolding findEntry exactMatch keyMatch sameKeys foldedKey folded lower wide sameBytes ifEq ifLe nameOf named entry normless
+cased : findEntry «normalization_insensitive» nameOf (65 ∷ []) (entry 1 ∷ entry 2 ∷ []) ≡ no NotFound
+unfolding findEntry exactMatch keyMatch sameKeys foldedKey folded lower wide sameBytes ifEq ifLe nameOf named entry «normalization_insensitive»
 cased = refl
 
-cased-behind : findEntry normless nameOf (65 ∷ []) (entry 1 ∷ entry 3 ∷ []) ≡ no CharacterNotCovered
-unfolding findEntry exactMatch keyMatch sameKeys foldedKey folded lower wide sameBytes ifEq ifLe nameOf named entry normless
+cased-behind : findEntry «normalization_insensitive» nameOf (65 ∷ []) (entry 1 ∷ entry 3 ∷ []) ≡ no CharacterNotCovered
+unfolding findEntry exactMatch keyMatch sameKeys foldedKey folded lower wide sameBytes ifEq ifLe nameOf named entry «normalization_insensitive»
 cased-behind = refl
 
 -- a part that is not covered is 9 in an empty directory, but 4 on a sensitive volume
-part-first : findEntry caseless nameOf (0xC3 ∷ 0x84 ∷ []) [] ≡ no CharacterNotCovered
-unfolding findEntry exactMatch wide ifLe caseless
+part-first : findEntry «case_insensitive» nameOf (0xC3 ∷ 0x84 ∷ []) [] ≡ no CharacterNotCovered
+unfolding findEntry exactMatch wide ifLe «case_insensitive»
 part-first = refl
 
 part-sensitive : findEntry sensitive nameOf (0xC3 ∷ 0x84 ∷ []) (entry 3 ∷ []) ≡ no NotFound

@@ -30,7 +30,7 @@ use Rattle.paths.proofs.Parts.{partsWith, next-parts, next-from, next-i
 
 -- the inode of the entry that was chosen
 module _ (b : List ℕ) (v : Volume) (p : List ℕ) (id s : ℕ) (r : EntryChosen) (h : entryChosen r ≡ entryIn b v id p s) where
-  pub enter-got : (e : Entry) (z : Counted Inode) → r .entry ≡ EntryRead.Got e → z ≡ inodeOf b v (e .id) (r .nodes) → z ≡ partInode b v p id s
+  pub enter-got : (e : Entry) (z : Counted Inode) → r .entry ≡ EntryRead.Got e → z ≡ inodeOf b v (e .«file_id») (r .nodes) → z ≡ partInode b v p id s
   unfolding partInode
   enter-got e z q k = rw (← h, q) k
 

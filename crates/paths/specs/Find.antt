@@ -19,7 +19,7 @@ unfoldable pub keyMatch : {A : Type 0} → NameRule → (A → List ℕ) → Lis
 keyMatch rule name p [] = no NotFound
 keyMatch rule name p (e ∷ es) =
     pick (wide (name e)) (no CharacterNotCovered)
-    (pick (sameKeys (rule .caseless) (rule .normless) p (name e)) (got e) (keyMatch rule name p es))
+    (pick (sameKeys (rule .«case_insensitive») (rule .«normalization_insensitive») p (name e)) (got e) (keyMatch rule name p es))
 
 -- 9 "in key comparison on an insensitive volume", "The part is tested first"; where no name counts as equal, 4
 unfoldable pub findEntry : {A : Type 0} → NameRule → (A → List ℕ) → List ℕ → List A → Answer A

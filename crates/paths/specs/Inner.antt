@@ -26,7 +26,7 @@ unlessExact name p e other = pick (sameBytes name p) (Exact e) other
 
 -- "else the first with an equal key", or 9
 unfoldable pub byKey : NameRule → List ℕ → List ℕ → Entry → Choice
-byKey rule name p e = pick (wide name) (No CharacterNotCovered) (pick (sameKeys (rule .caseless) (rule .normless) p name) (Keyed e) Open)
+byKey rule name p e = pick (wide name) (No CharacterNotCovered) (pick (sameKeys (rule .«case_insensitive») (rule .«normalization_insensitive») p name) (Keyed e) Open)
 
 -- what is known after an entry of a name
 unfoldable pub weighed : NameRule → List ℕ → List ℕ → Entry → Choice → Choice

@@ -29,7 +29,7 @@ entryIn b v id p s = onto (entriesOf b v id s) λ es t. after t (findEntry (rule
 
 -- the inode of that entry
 unfoldable pub partInode : List ℕ → Volume → List ℕ → ℕ → ℕ → Counted Inode
-partInode b v p id s = onto (entryIn b v id p s) λ e t. inodeOf b v (e .id) t
+partInode b v p id s = onto (entryIn b v id p s) λ e t. inodeOf b v (e .«file_id») t
 
 -- from what was reached, part after part
 unfoldable pub walkParts : List ℕ → Volume → Counted Inode → List (List ℕ) → Counted Inode

@@ -5,8 +5,8 @@ ghost use mathlib.Core.Path.{_≡_};
 ghost use Rattle.paths.specs.Names.{ruleOf, insensitive, wide, folded, sameKeys};
 
 pub struct NameRule {
-    pub caseless: bool,
-    pub normless: bool,
+    pub case_insensitive: bool,
+    pub normalization_insensitive: bool,
 }
 
 pub fn name_rule(v: Volume) -> NameRule
@@ -14,8 +14,8 @@ pub fn name_rule(v: Volume) -> NameRule
 {
     let sb = v.sb;
     NameRule {
-        caseless: sb.incompat % 2 == 1,
-        normless: sb.incompat / 8 % 2 == 1,
+        case_insensitive: sb.incompat % 2 == 1,
+        normalization_insensitive: sb.incompat / 8 % 2 == 1,
     }
 }
 
@@ -23,10 +23,10 @@ pub fn name_rule(v: Volume) -> NameRule
 pub fn insensitive(rule: NameRule) -> bool
     ensures { λ r. ⌜ r ≡ insensitive rule ⌝ }
 {
-    if rule.caseless {
+    if rule.case_insensitive {
         return true;
     }
-    rule.normless
+    rule.normalization_insensitive
 }
 
 // Whether a name has a character above U+007F.
@@ -43,10 +43,10 @@ pub fn is_wide(b: &[u8]) -> bool
     false
 }
 
-fn fold(x: u8, caseless: bool) -> u8
-    ensures { λ r. ⌜ r ≡ folded caseless x ⌝ }
+fn fold(x: u8, case_insensitive: bool) -> u8
+    ensures { λ r. ⌜ r ≡ folded «case_insensitive» x ⌝ }
 {
-    if caseless {
+    if case_insensitive {
         return lower_case(x);
     }
     x
@@ -54,14 +54,14 @@ fn fold(x: u8, caseless: bool) -> u8
 
 // Whether two ASCII names have the same key.
 pub fn same_key(rule: NameRule, a: &[u8], b: &[u8]) -> bool
-    ensures { λ r. ⌜ r ≡ sameKeys (rule .caseless) (rule .normless) (now (a .entry)) (now (b .entry)) ⌝ }
+    ensures { λ r. ⌜ r ≡ sameKeys (rule .«case_insensitive») (rule .«normalization_insensitive») (now (a .entry)) (now (b .entry)) ⌝ }
 {
     if a.len() != b.len() {
         return false;
     }
     let mut i = 0;
     while i < a.len() {
-        if fold(a[i], rule.caseless) != fold(b[i], rule.caseless) {
+        if fold(a[i], rule.case_insensitive) != fold(b[i], rule.case_insensitive) {
             return false;
         }
         i += 1;

@@ -72,7 +72,7 @@ fn enter(image: &[u8], v: Volume, id: u64, part: &[u8], nodes: u64) -> InodeFoun
     let found = entry_in(image, v, id, part, nodes);
     let entry = found.entry;
     match entry {
-        EntryRead::Got(e) => inode(image, v, e.id, found.nodes),
+        EntryRead::Got(e) => inode(image, v, e.file_id, found.nodes),
         EntryRead::No(e) => InodeFound {
             inode: InodeRead::No(e),
             nodes: found.nodes,

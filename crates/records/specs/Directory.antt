@@ -35,7 +35,7 @@ entryValue p name value =
     numberAt 8 value 0 >>= λ id.
     numberAt 8 value 8 >>= λ date.
     numberAt 2 value 16 >>= λ flags.
-    got (record { place = p; name = name; id = id; date = date; kind = flags % 16 })
+    got (record { place = p; name = name; «file_id» = id; «date_added» = date; kind = flags % 16 })
 
 -- the name before the value (fs.rs, `read_dir`)
 unfoldable pub entryAt : Reader → List ℕ → Place → Answer Entry

@@ -19,8 +19,8 @@ unfoldable pub extentIn : List ℕ → List ℕ → Answer Extent
 extentIn key value =
     numberAt 8 key 8 >>= λ logical.
     numberAt 8 value 0 >>= λ flags.
-    numberAt 8 value 8 >>= λ phys.
-    got (record { logical = logical; len = flags % 2 ^ 56; phys = phys })
+    numberAt 8 value 8 >>= λ «phys_block».
+    got (record { logical = logical; len = flags % 2 ^ 56; «phys_block» = «phys_block» })
 
 unfoldable pub extentAt : Reader → List ℕ → Place → Answer Extent
 extentAt r b p = extentIn (keyOf r b p) (valueOf r b p)

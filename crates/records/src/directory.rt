@@ -21,8 +21,8 @@ ghost use Rattle.records.specs.Directory.{entryTold, nameIn, entryValue,
 pub struct Entry {
     pub place: Place,
     pub name: Span,
-    pub id: u64,
-    pub date: u64,
+    pub file_id: u64,
+    pub date_added: u64,
     pub kind: u16,
 }
 
@@ -83,8 +83,8 @@ fn value_in(place: Place, name: Span, value: &[u8]) -> EntryRead
     EntryRead::Got(Entry {
         place: place,
         name: name,
-        id: id,
-        date: date,
+        file_id: id,
+        date_added: date,
         kind: (flags % 16) as u16,
     })
 }

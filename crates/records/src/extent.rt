@@ -9,11 +9,11 @@ use obj::Reader;
 ghost use mathlib.Core.Path.{_≡_};
 ghost use Rattle.records.specs.Extent.{extentTold, extentIn, extentAt};
 
-// `len` bytes of a file from `logical` on, stored from block `phys` on; block 0 means a hole.
+// `len` bytes of a file from `logical` on, stored from block `phys_block` on; block 0 means a hole.
 pub struct Extent {
     pub logical: u64,
     pub len: u64,
-    pub phys: u64,
+    pub phys_block: u64,
 }
 
 pub enum ExtentRead {
@@ -32,14 +32,14 @@ fn extent_in(key: &[u8], value: &[u8]) -> ExtentRead
         Number::Got(x) => x,
         Number::No(e) => return ExtentRead::No(e),
     };
-    let phys = match u64_at(value, 8) {
+    let phys_block = match u64_at(value, 8) {
         Number::Got(x) => x,
         Number::No(e) => return ExtentRead::No(e),
     };
     ExtentRead::Got(Extent {
         logical: logical,
         len: flags % 72057594037927936,
-        phys: phys,
+        phys_block: phys_block,
     })
 }
 

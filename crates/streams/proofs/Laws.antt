@@ -63,11 +63,11 @@ unfolding wantedOf
 wanted-within size w e q = omega arith
 
 module _ (d : Disk) (e : Extent) (n : ℕ) where
-  pub ready-sparse : e .phys ≡ 0 → fine ≡ ready d e n
+  pub ready-sparse : e .«phys_block» ≡ 0 → fine ≡ ready d e n
   unfolding ready
   ready-sparse h = same _ _ _ _ _ h refl
 
-  module _ (h : e .phys ≡ 0 → ⊥) (r : Ruling) (p : ruled r ≡ countedIn (d .block) (d .count) e) where
+  module _ (h : e .«phys_block» ≡ 0 → ⊥) (r : Ruling) (p : ruled r ≡ countedIn (d .block) (d .count) e) where
     pub ready-no : (w : Refusal) → r ≡ Ruling.No w → no w ≡ ready d e n
     unfolding ready
     ready-no w q = other _ _ _ _ _ h (rw (← p, q))
@@ -76,12 +76,12 @@ module _ (d : Disk) (e : Extent) (n : ℕ) where
     unfolding ready
     ready-none q k = other _ _ _ _ _ h (rw (← p, q) (at-most _ _ _ _ _ (omega arith) refl))
 
-    pub ready-lies : (m : ℕ) (v : Verdict) → r ≡ Ruling.Fine → (n ≡ 0 → ⊥) → m ≡ blocks (d .block) n → v ≡ lies d (e .phys) (e .phys + m) → v ≡ ready d e n
+    pub ready-lies : (m : ℕ) (v : Verdict) → r ≡ Ruling.Fine → (n ≡ 0 → ⊥) → m ≡ blocks (d .block) n → v ≡ lies d (e .«phys_block») (e .«phys_block» + m) → v ≡ ready d e n
     unfolding ready
     ready-lies m v q k l u = other _ _ _ _ _ h (rw (← p, q) (above _ _ _ _ _ (omega arith) (rw (← l) u)))
 
 -- the sum of `ready` fits
-pub blocks-fit : (x count : ℕ) (e : Extent) (r : Ruling) (n m : ℕ) → ruled r ≡ countedIn (max 1 x) count e → r ≡ Ruling.Fine → n ≤ e .len → m ≡ blocks (max 1 x) n → Fits w64 (e .phys + m)
+pub blocks-fit : (x count : ℕ) (e : Extent) (r : Ruling) (n m : ℕ) → ruled r ≡ countedIn (max 1 x) count e → r ≡ Ruling.Fine → n ≤ e .len → m ≡ blocks (max 1 x) n → Fits w64 (e .«phys_block» + m)
 blocks-fit x count e r n m p q h k = record { fits = omega (arith, sum-last (max 1 x) count e r p q (max 1 x) refl (omega arith) n m h k) }
 
 module _ (d : Disk) (size pos : ℕ) (e : Extent) where

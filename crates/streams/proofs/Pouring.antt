@@ -81,13 +81,13 @@ drop-least k b = of (le-or-gt k (length b))
     of (inr h) = let q : min k (length b) ≡ length b = omega arith in rw (q, drop-of-length-le b {i = length b} (omega arith), drop-of-length-le b {i = k} (omega arith))
 
 module _ (d : Disk) (e : Extent) (n : ℕ) where
-  pub zeros-taken : (room : ℕ) (o z : Output) → e .phys ≡ 0 → z ≡ puts room (pairs (replicate n 0) []) o → z ≡ puts room (pairs (taken d e n) []) o
+  pub zeros-taken : (room : ℕ) (o z : Output) → e .«phys_block» ≡ 0 → z ≡ puts room (pairs (replicate n 0) []) o → z ≡ puts room (pairs (taken d e n) []) o
   zeros-taken room o z h g = rw (taken-sparse d e n h) g
 
-  pub part-taken : (room : ℕ) (o z : Output) (k : ℕ) (x : List ℕ) → (e .phys ≡ 0 → ⊥) → k ≡ min (e .phys * d .block) (length (d .image)) → x ≡ partOf (d .image) (record { start = k; len = n })
+  pub part-taken : (room : ℕ) (o z : Output) (k : ℕ) (x : List ℕ) → (e .«phys_block» ≡ 0 → ⊥) → k ≡ min (e .«phys_block» * d .block) (length (d .image)) → x ≡ partOf (d .image) (record { start = k; len = n })
       → z ≡ puts room (pairs x []) o → z ≡ puts room (pairs (taken d e n) []) o
   unfolding partOf
-  part-taken room o z k x h p q g = rw (taken-real d e n h) (rw (q, p, drop-least (e .phys * d .block) (d .image)) at g)
+  part-taken room o z k x h p q g = rw (taken-real d e n h) (rw (q, p, drop-least (e .«phys_block» * d .block) (d .image)) at g)
 
 module _ (d : Disk) (size pos : ℕ) (e : Extent) (room : ℕ) (o : Output) where
   pub step-none : size ≤ pos → o ≡ puts room (pairs (stepBytes d size pos e) []) o

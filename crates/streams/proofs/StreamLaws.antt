@@ -161,11 +161,11 @@ module _ (d : Disk) (pos : 0 < d .block) where
 
   pub fetch-length : (e : Extent) (n : ℕ) (xs : List ℕ) → fetch (piece d) d e n ≡ got xs → length xs ≡ n
   unfolding fetch
-  fetch-length e n xs w = go (le-or-gt (e .phys) 0)
+  fetch-length e n xs w = go (le-or-gt (e .«phys_block») 0)
     where
-      go : (e .phys ≤ 0) ⊎ (0 < e .phys) → length xs ≡ n
+      go : (e .«phys_block» ≤ 0) ⊎ (0 < e .«phys_block») → length xs ≡ n
       go (inl h) = let q : xs ≡ replicate n 0 = cc (was-same _ _ _ _ _ (omega arith) w) in rw q (length-replicate n 0)
-      go (inr h) = piece-length (e .phys) n xs (went (counted d e) _ _ (was-other _ _ _ _ _ (λ q. omega arith) w) .1)
+      go (inr h) = piece-length (e .«phys_block») n xs (went (counted d e) _ _ (was-other _ _ _ _ _ (λ q. omega arith) w) .1)
 
   pub stream-length : (size at : ℕ) (es : List Extent) (bs : List ℕ) → at ≤ size → streamBy (piece d) d size at es ≡ got bs → length bs ≡ size - at
   unfolding streamBy
@@ -190,7 +190,7 @@ module _ (d : Disk) (pos : 0 < d .block) where
 -- ---- two passes
 
 module _ (d : Disk) (e : Extent) (n : ℕ) where
-  module _ (h : e .phys ≡ 0) where
+  module _ (h : e .«phys_block» ≡ 0) where
     fetch-sparse : fetch (piece d) d e n ≡ got (replicate n 0)
     unfolding fetch
     fetch-sparse = sym (same _ _ _ _ _ h refl)
@@ -203,36 +203,36 @@ module _ (d : Disk) (e : Extent) (n : ℕ) where
     unfolding taken
     taken-sparse = sym (same _ _ _ _ _ h refl)
 
-  module _ (h : e .phys ≡ 0 → ⊥) where
-    fetch-real : fetch (piece d) d e n ≡ (counted d e >> piece d (e .phys) n)
+  module _ (h : e .«phys_block» ≡ 0 → ⊥) where
+    fetch-real : fetch (piece d) d e n ≡ (counted d e >> piece d (e .«phys_block») n)
     unfolding fetch
     fetch-real = sym (other _ _ _ _ _ h refl)
 
-    ready-real : ready d e n ≡ (counted d e >> ifLe n 0 fine (lies d (e .phys) (e .phys + blocks (d .block) n)))
+    ready-real : ready d e n ≡ (counted d e >> ifLe n 0 fine (lies d (e .«phys_block») (e .«phys_block» + blocks (d .block) n)))
     unfolding ready
     ready-real = sym (other _ _ _ _ _ h refl)
 
-    pub taken-real : taken d e n ≡ take n (drop (e .phys * d .block) (d .image))
+    pub taken-real : taken d e n ≡ take n (drop (e .«phys_block» * d .block) (d .image))
     unfolding taken
     taken-real = sym (other _ _ _ _ _ h refl)
 
-  piece-two : piece d (e .phys) n ≡ (ifLe n 0 fine (lies d (e .phys) (e .phys + blocks (d .block) n)) >> got (take n (drop (e .phys * d .block) (d .image))))
+  piece-two : piece d (e .«phys_block») n ≡ (ifLe n 0 fine (lies d (e .«phys_block») (e .«phys_block» + blocks (d .block) n)) >> got (take n (drop (e .«phys_block» * d .block) (d .image))))
   piece-two = go (le-or-gt n 0)
     where
       v : Verdict
-      v = lies d (e .phys) (e .phys + blocks (d .block) n)
+      v = lies d (e .«phys_block») (e .«phys_block» + blocks (d .block) n)
 
-      go : (n ≤ 0) ⊎ (0 < n) → piece d (e .phys) n ≡ (ifLe n 0 fine v >> got (take n (drop (e .phys * d .block) (d .image))))
-      go (inl u) = let q : n ≡ 0 = omega arith in rw (piece-none d (e .phys) n u, sym (at-most n 0 fine v _ u refl), q)
-      go (inr u) = rw (piece-is d (e .phys) n u, sym (above n 0 fine v _ u refl))
+      go : (n ≤ 0) ⊎ (0 < n) → piece d (e .«phys_block») n ≡ (ifLe n 0 fine v >> got (take n (drop (e .«phys_block» * d .block) (d .image))))
+      go (inl u) = let q : n ≡ 0 = omega arith in rw (piece-none d (e .«phys_block») n u, sym (at-most n 0 fine v _ u refl), q)
+      go (inr u) = rw (piece-is d (e .«phys_block») n u, sym (above n 0 fine v _ u refl))
 
   fetch-two : fetch (piece d) d e n ≡ (ready d e n >> got (taken d e n))
-  fetch-two = go (le-or-gt (e .phys) 0)
+  fetch-two = go (le-or-gt (e .«phys_block») 0)
     where
-      go : (e .phys ≤ 0) ⊎ (0 < e .phys) → fetch (piece d) d e n ≡ (ready d e n >> got (taken d e n))
-      go (inl h) = let q : e .phys ≡ 0 = omega arith in rw (fetch-sparse q, ready-sparse q, taken-sparse q)
+      go : (e .«phys_block» ≤ 0) ⊎ (0 < e .«phys_block») → fetch (piece d) d e n ≡ (ready d e n >> got (taken d e n))
+      go (inl h) = let q : e .«phys_block» ≡ 0 = omega arith in rw (fetch-sparse q, ready-sparse q, taken-sparse q)
       go (inr h) =
-          let q : e .phys ≡ 0 → ⊥ = omega arith in
+          let q : e .«phys_block» ≡ 0 → ⊥ = omega arith in
           rw (fetch-real q, ready-real q, taken-real q, piece-two, assoc (counted d e))
 
 two : {A B C : Type 0} (v w : Verdict) (x : A) (y : B) (f : A → B → C) → ((v >> got x) >>= λ s. (w >> got y) >>= λ t. got (f s t)) ≡ ((v >> w) >> got (f x y))
@@ -260,7 +260,7 @@ stream-two d size pos (e ∷ es) =
 
 -- what a fetch that succeeds gives
 pub fetch-is : (d : Disk) (e : Extent) (n : ℕ) (x : List ℕ) → fetch (piece d) d e n ≡ got x
-    → (e .phys ≡ 0 → x ≡ replicate n 0) × ((e .phys ≡ 0 → ⊥) → x ≡ take n (drop (e .phys * d .block) (d .image)))
+    → (e .«phys_block» ≡ 0 → x ≡ replicate n 0) × ((e .«phys_block» ≡ 0 → ⊥) → x ≡ take n (drop (e .«phys_block» * d .block) (d .image)))
 fetch-is d e n x w =
     let v = went (ready d e n) _ _ (sym (fetch-two d e n) ∙ w) in
     let q : x ≡ taken d e n = cc (v .1) in

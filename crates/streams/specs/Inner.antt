@@ -20,7 +20,7 @@ use Rattle.extents.specs.Extents.{Disk, diskOf, blocks, counted, lies}
 
 -- one extent, of which n bytes are wanted: whether it can be read, and its bytes
 unfoldable pub ready : Disk → Extent → ℕ → Verdict
-ready d e n = ifEq (e .phys) 0 fine (counted d e >> ifLe n 0 fine (lies d (e .phys) (e .phys + blocks (d .block) n)))
+ready d e n = ifEq (e .«phys_block») 0 fine (counted d e >> ifLe n 0 fine (lies d (e .«phys_block») (e .«phys_block» + blocks (d .block) n)))
 
 -- all of them: what is refused, and the bytes
 unfoldable pub settle : Disk → ℕ → ℕ → List Extent → Verdict
@@ -31,7 +31,7 @@ settle d size pos (e ∷ es) =
     ifLe size pos fine (atMost pos (e .logical) Corrupt (ready d e n >> settle d size (a + n) es))
 
 unfoldable pub taken : Disk → Extent → ℕ → List ℕ
-taken d e n = ifEq (e .phys) 0 (replicate n 0) (take n (drop (e .phys * d .block) (d .image)))
+taken d e n = ifEq (e .«phys_block») 0 (replicate n 0) (take n (drop (e .«phys_block» * d .block) (d .image)))
 
 unfoldable pub poured : Disk → ℕ → ℕ → List Extent → List ℕ
 poured d size pos [] = replicate (size - pos) 0

@@ -14,7 +14,7 @@ piece d p n = ifLe n 0 (got []) (lies d p (p + blocks (d .block) n) >> got (take
 
 -- the first n bytes of e; `read` says how those of an extent that is not sparse are read. The block count is tested also where n is 0
 unfoldable pub fetch : (ℕ → ℕ → Answer (List ℕ)) → Disk → Extent → ℕ → Answer (List ℕ)
-fetch read d e n = ifEq (e .phys) 0 (got (replicate n 0)) (counted d e >> read (e .phys) n)
+fetch read d e n = ifEq (e .«phys_block») 0 (got (replicate n 0)) (counted d e >> read (e .«phys_block») n)
 
 -- the bytes from pos on: a gap and what no extent has are zeros; an extent that starts before pos is 2 (fs.rs, "overlapping extents in data stream")
 unfoldable pub streamBy : (ℕ → ℕ → Answer (List ℕ)) → Disk → ℕ → ℕ → List Extent → Answer (List ℕ)

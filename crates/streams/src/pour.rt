@@ -83,11 +83,11 @@ fn put_taken(
 ) -> Position
     ensures { λ r. ⌜ outputOf r (now (out .exit)) ≡ puts room (pairs (taken (diskOf reader (now (image .entry))) e n) []) (outputOf p (now (out .entry))) ⌝ }
 {
-    if e.phys == 0 {
+    if e.phys_block == 0 {
         return put_zeros(out, room, p, n);
     }
     let span = Span {
-        start: begins(image, reader, e.phys),
+        start: begins(image, reader, e.phys_block),
         len: n as usize,
     };
     put_hex(out, room, p, part(image, span))

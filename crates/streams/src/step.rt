@@ -35,7 +35,7 @@ fn ready_at(image: &[u8], reader: Reader, e: Extent, n: u64) -> Ruling
     requires { ⌜ n ≤ e .len ⌝ }
     ensures { λ r. ⌜ ruled r ≡ ready (diskOf reader (now (image .entry))) e n ⌝ }
 {
-    if e.phys == 0 {
+    if e.phys_block == 0 {
         return Ruling::Fine;
     }
     match counted_at(reader, e) {
@@ -44,7 +44,12 @@ fn ready_at(image: &[u8], reader: Reader, e: Extent, n: u64) -> Ruling
             if n == 0 {
                 return Ruling::Fine;
             }
-            lies_at(image, reader, e.phys, e.phys + blocks_in(reader, n))
+            lies_at(
+                image,
+                reader,
+                e.phys_block,
+                e.phys_block + blocks_in(reader, n),
+            )
         }
     }
 }

@@ -8,7 +8,7 @@ use Rattle.paths.proofs.names.same_key.Statement.{statement}
 use Rattle.paths.proofs.names.same_key.Tie as tie
 
 abbrev Inv-loop : tie.InvT-loop
-Inv-loop rule a b i₀ i = (length a ≡ length b) × (sameKeys (rule .caseless) (rule .normless) (drop i a) (drop i b) ≡ sameKeys (rule .caseless) (rule .normless) a b)
+Inv-loop rule a b i₀ i = (length a ≡ length b) × (sameKeys (rule .«case_insensitive») (rule .«normalization_insensitive») (drop i a) (drop i b) ≡ sameKeys (rule .«case_insensitive») (rule .«normalization_insensitive») a b)
 
 abbrev μ-loop : tie.MeasureT-loop
 μ-loop rule a b i₀ i = length a - i
