@@ -9,7 +9,7 @@ use lib.Seq.{ext-getD, getD-take, getD-drop}
 use Rattle.error.specs.Answer.{got}
 use Rattle.error.proofs.Laws.{at-most, above}
 use Rattle.extents.specs.Verdict.{fine}
-use Rattle.extents.specs.Extents.{Disk, end, inOrder, allows, decide}
+use Rattle.extents.specs.Extents.{Disk, end, inOrder, apart, allows, decide}
 use Rattle.files.specs.Read.{over, byteAt, span, bytes, readAt, readAll}
 use Rattle.streams.specs.Stream.{stream}
 use Rattle.streams.specs.Inner.{taken, poured, settle}
@@ -122,8 +122,8 @@ module _ (d : Disk) where
     unfolding readAll bytes
     all-poured es bs w = go (le-or-gt size 0)
       where
-        c : (inOrder end 0 es ≡ fine) × (readAt d size es 0 size ≡ got bs)
-        c = went (inOrder end 0 es) _ _ w
+        c : (apart es ≡ fine) × (readAt d size es 0 size ≡ got bs)
+        c = went (apart es) _ _ w
 
         m : min size (size - 0) ≡ size - 0
         m = omega arith

@@ -1,5 +1,5 @@
 -- The turns of the loop over a file's extents, and what a whole read refuses as the definition has it.
-use Prim.Native.Nat.{ℕ, zero, _+_, _-_, _≤_, _<_, min}
+use Prim.Native.Nat.{ℕ, _-_, _≤_, _<_}
 use mathlib.Core.Path.{_≡_, refl, sym, ap, _∙_}
 use mathlib.Core.List.{List, [], _∷_}
 use mathlib.Core.Logic.{_⊎_, inl, inr}
@@ -25,7 +25,7 @@ use Rattle.lists.proofs.Reading.{reading, list-start, list-end, list-next}
 use Rattle.lists.proofs.Turns as list-turns
 use Rattle.extents.proofs.Verdicts.{le-or-gt}
 use Rattle.extents.specs.Verdict.{Verdict, fine, _>>_, atMost}
-use Rattle.extents.specs.Extents.{diskOf, end, inOrder}
+use Rattle.extents.specs.Extents.{diskOf, end, inOrder, apart}
 use Rattle.extents.specs.Inner.{judgeOf, judgedTold, judgedOf}
 use Rattle.extents.proofs.JudgeTurns.{told-decided}
 use Rattle.files.specs.File.{sizeOf}
@@ -76,7 +76,7 @@ ordering-end (no w) last = refl
 
 module _ (b : List ℕ) (q : Search) (s : Step) where
   pub apart-start : (n : ℕ) (last : Extent) → last ≡ record { logical = 0; len = 0; «phys_block» = 0 } → runOf b q s ≡ scanOf b q n
-      → reading (extentAt (q .reader) b) (ordering fine last) (runOf b q s) ≡ (onto (listOf (extentAt (q .reader) b) (scanOf b q n)) λ es t. after t (inOrder end 0 es))
+      → reading (extentAt (q .reader) b) (ordering fine last) (runOf b q s) ≡ (onto (listOf (extentAt (q .reader) b) (scanOf b q n)) λ es t. after t (apart es))
   unfolding ordering
   apart-start n last h e = rw h (list-start (extentAt (q .reader) b) (ordering fine (record { logical = 0; len = 0; «phys_block» = 0 })) b q s n e)
 
@@ -90,7 +90,7 @@ module _ (b : List ℕ) (q : Search) (s : Step) where
         list-next (extentAt (q .reader) b) (ordering v last) b q s whole inv p f (ordering z e) e t (list-turns.extent-was r (extentAt (q .reader) b p) h e g) (ordering-next v z last e k) u
 
 pub apart-done : (b : List ℕ) (q : Search) (s n : ℕ) (x : Ruling) (r : Settled) → r ≡ record { ruling = x; nodes = n }
-    → after n (ruled x) ≡ (onto (listOf (extentAt (q .reader) b) (scanOf b q s)) λ es t. after t (inOrder end 0 es)) → settledTold r ≡ apartOf b q s
+    → after n (ruled x) ≡ (onto (listOf (extentAt (q .reader) b) (scanOf b q s)) λ es t. after t (apart es)) → settledTold r ≡ apartOf b q s
 unfolding apartOf
 apart-done b q s n x r h g = rw h g
 
@@ -116,14 +116,14 @@ module _ (b : List ℕ) (q : Search) (size s : ℕ) (a : Settled) (p : settledTo
   whole-no w h e =
       let k : after (a .nodes) (no w) ≡ settledTold a = ap (λ (x : Ruling). after (a .nodes) (ruled x)) (sym h) in
       ap settledTold e
-      ∙ first-no (listOf (extentAt (q .reader) b) (scanOf b q s) .nodes) (inOrder end 0) (judgeOf (diskOf (q .reader) b) 0 size) (listOf (extentAt (q .reader) b) (scanOf b q s) .answer) (a .nodes) w (k ∙ p)
+      ∙ first-no (listOf (extentAt (q .reader) b) (scanOf b q s) .nodes) apart (judgeOf (diskOf (q .reader) b) 0 size) (listOf (extentAt (q .reader) b) (scanOf b q s) .answer) (a .nodes) w (k ∙ p)
 
   pub whole-judged : (j : Judged) (x : Ruling) → a .ruling ≡ Ruling.Fine → judgedTold b q j ≡ judgedOf b q 0 size s → x ≡ j .ruling → r ≡ record { ruling = x; nodes = j .nodes } → settledTold r ≡ wholeOver b q size s
   unfolding apartOf wholeOver wholeVerdict
   whole-judged j x h d y e =
       let k : after (a .nodes) fine ≡ settledTold a = ap (λ (z : Ruling). after (a .nodes) (ruled z)) (sym h) in
       ap settledTold e ∙ ap (λ (z : Ruling). after (j .nodes) (ruled z)) y
-      ∙ then-second (listOf (extentAt (q .reader) b) (scanOf b q s) .nodes) (inOrder end 0) (judgeOf (diskOf (q .reader) b) 0 size) (listOf (extentAt (q .reader) b) (scanOf b q s) .answer) (a .nodes) (j .nodes) (ruled (j .ruling)) (k ∙ p) (told-decided b q 0 size s j d .verdict)
+      ∙ then-second (listOf (extentAt (q .reader) b) (scanOf b q s) .nodes) apart (judgeOf (diskOf (q .reader) b) 0 size) (listOf (extentAt (q .reader) b) (scanOf b q s) .answer) (a .nodes) (j .nodes) (ruled (j .ruling)) (k ∙ p) (told-decided b q 0 size s j d .verdict)
 
 pub whole-done : (b : List ℕ) (v : Volume) (i : Inode) (s size : ℕ) (q : Search) (r : Settled) → q ≡ searchOf v (i .ids .«private_id») 8 → size ≡ sizeOf i → settledTold r ≡ wholeOver b q size s → settledTold r ≡ settledWhole b v i s
 unfolding wholeBy

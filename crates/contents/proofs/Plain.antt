@@ -15,7 +15,7 @@ use Rattle.records.specs.declared.extent.Extent.{Extent}
 use Rattle.inode_record.specs.declared.inode.Inode.{Inode}
 use Rattle.lists.specs.Lists.{searchOf, listOf, extentsOf}
 use Rattle.extents.specs.Verdict.{Verdict, fine, _>>_}
-use Rattle.extents.specs.Extents.{Disk, diskOf, start, end, inOrder, since, decide}
+use Rattle.extents.specs.Extents.{Disk, diskOf, apart, ascending, since, decide}
 use Rattle.files.specs.Read.{bytes, span, readAt, readAll}
 use Rattle.extents.specs.Inner.{judgeOf}
 use Rattle.files.specs.File.{sizeOf, readPlain, readWhole}
@@ -53,18 +53,18 @@ module _ (d : Disk) (es : List Extent) where
   read-all : (size : ℕ) → readAt d size es 0 size ≡ (judgeOf d 0 size es >> got (bytes d es 0 size))
   unfolding readAt judgeOf
   read-all size =
-      ap (λ (x : Answer (List ℕ)). inOrder start 0 es >> x) (rest-is size (min size (size - 0)) (omega arith))
-      ∙ sym (assoc (inOrder start 0 es) (decide d 0 size (since 0 es)) (got (bytes d es 0 size)))
+      ap (λ (x : Answer (List ℕ)). ascending es >> x) (rest-is size (min size (size - 0)) (omega arith))
+      ∙ sym (assoc (ascending es) (decide d 0 size (since 0 es)) (got (bytes d es 0 size)))
 
   -- refused as `wholeVerdict` says, and else the bytes that are poured
   pub all-settled : (size : ℕ) → 0 < d .block → readAll d size es ≡ (wholeVerdict d size es >> got (poured d size 0 es))
   unfolding readAll wholeVerdict
-  all-settled size pos = of (inOrder end 0 es >> judgeOf d 0 size es) refl
+  all-settled size pos = of (apart es >> judgeOf d 0 size es) refl
     where
-      whole : readAll d size es ≡ ((inOrder end 0 es >> judgeOf d 0 size es) >> got (bytes d es 0 size))
-      whole = ap (λ (x : Answer (List ℕ)). inOrder end 0 es >> x) (read-all size) ∙ sym (assoc (inOrder end 0 es) (judgeOf d 0 size es) (got (bytes d es 0 size)))
+      whole : readAll d size es ≡ ((apart es >> judgeOf d 0 size es) >> got (bytes d es 0 size))
+      whole = ap (λ (x : Answer (List ℕ)). apart es >> x) (read-all size) ∙ sym (assoc (apart es) (judgeOf d 0 size es) (got (bytes d es 0 size)))
 
-      of : (v : Verdict) → (inOrder end 0 es >> judgeOf d 0 size es) ≡ v → readAll d size es ≡ (v >> got (poured d size 0 es))
+      of : (v : Verdict) → (apart es >> judgeOf d 0 size es) ≡ v → readAll d size es ≡ (v >> got (poured d size 0 es))
       of (got tt) e =
           let r : readAll d size es ≡ got (bytes d es 0 size) = whole ∙ ap (λ (v : Verdict). v >> got (bytes d es 0 size)) e in
           r ∙ ap got (all-poured d pos size es (bytes d es 0 size) r)

@@ -14,7 +14,7 @@ use Rattle.error.proofs.Laws.{at-most, above, tests}
 use Rattle.records.specs.declared.extent.Extent.{Extent}
 use Rattle.extents.specs.Verdict.{Verdict, fine, _>>_}
 use Rattle.extents.specs.Ruling.{ruled}
-use Rattle.extents.specs.Extents.{Disk, start, inOrder, seek, allows, decide}
+use Rattle.extents.specs.Extents.{Disk, start, inOrder, ascending, seek, allows, decide}
 use Rattle.extents.specs.Inner.{touches, judgeOf, bothOf, OneMore, closing}
 use Rattle.extents.specs.declared.verdict.Ruling.{Ruling}
 use Rattle.extents.specs.declared.verdict.Ruling.the-variants.{Fine, No}
@@ -102,7 +102,7 @@ module _ (d : Disk) (off stop : ℕ) where
 
   pub judging-start : (j : Judging) (es : List Extent) → j ≡ record { last = 0; rises = true; ruling = Fine } → judging d off stop j es ≡ judgeOf d off stop es
   unfolding judging judgeOf
-  judging-start j es q = rw q (then-same (inOrder start 0 es) _ _ (λ c. since-seek 0 fine es es refl c))
+  judging-start j es q = rw q (then-same (ascending es) _ _ (λ c. since-seek 0 fine es es refl c))
 
   pub judging-end : (j : Judging) → judging d off stop j [] ≡ closing j
   unfolding judging inOrder sinceFrom

@@ -12,7 +12,6 @@ use Rattle.error.proofs.Laws.{at-most, le-cases}
 use Rattle.lookup.specs.Counted.{Counted, after, from, onto}
 use Rattle.btree.specs.Scan.{scanOf}
 use Rattle.btree.specs.declared.entries.Search.{Search}
-use Rattle.btree.specs.declared.entries.Found.the-variants as found
 use Rattle.cursor.specs.Left.{left, runOf}
 use Rattle.cursor.specs.declared.Step.{Step}
 use Rattle.records.specs.Extent.{extentAt}

@@ -8,13 +8,12 @@ use borrow.Author.Needs.{needs}
 use Rattle.error.specs.declared.Refusal.{Refusal}
 use Rattle.error.proofs.Laws.{at-most}
 use Rattle.btree.specs.declared.entries.Search.{Search}
-use Rattle.btree.specs.declared.entries.Found.the-variants as found
 use Rattle.cursor.specs.Left.{left, runOf}
 use Rattle.cursor.specs.declared.Step.{Step}
 use Rattle.records.specs.Extent.{extentAt}
 use Rattle.records.specs.declared.extent.Extent.{Extent}
 use Rattle.extents.specs.Verdict.{fine}
-use Rattle.extents.specs.Extents.{Disk, diskOf, start, inOrder, allows, decide}
+use Rattle.extents.specs.Extents.{Disk, diskOf, start, inOrder, ascending, allows, decide}
 use Rattle.files.specs.Inner.{lay, Ready}
 use Rattle.extents.specs.Inner.{looked, extentsIn}
 use Rattle.extents.specs.declared.walk.Seen.{Seen}
@@ -24,13 +23,13 @@ use Rattle.extents.proofs.ExtentLaws.{decide-goes}
 use Rattle.files.proofs.CopyLaws.{lay-none, lay-halt, lay-cons, lay-length}
 use Rattle.extents.proofs.SeenLaws.{seen-less, held-over, held-no, held-at, held-more}
 
-pub lower : (at : ℕ) (es : List Extent) → inOrder start at es ≡ fine → inOrder start 0 es ≡ fine
+pub lower : (at : ℕ) (es : List Extent) → inOrder start at es ≡ fine → ascending es ≡ fine
 unfolding inOrder
 lower at [] c = refl
 lower at (e ∷ es) c = let q = passed _ _ _ _ _ c in sym (at-most _ _ _ _ _ (omega arith) (sym (q .1)))
 
 -- what follows an extent of an ascending list ascends
-pub tail-rises : (at : ℕ) (e : Extent) (es : List Extent) → inOrder start at (e ∷ es) ≡ fine → inOrder start 0 es ≡ fine
+pub tail-rises : (at : ℕ) (e : Extent) (es : List Extent) → inOrder start at (e ∷ es) ≡ fine → ascending es ≡ fine
 unfolding inOrder
 tail-rises at e es c = lower (e .logical) es (passed _ _ _ _ _ c .1)
 

@@ -23,7 +23,7 @@ use Rattle.calls.specs.Filled.{Filled, answered}
 use Rattle.calls.proofs.Filling.{filled-fits, filled-nothing}
 use Rattle.extents.specs.Verdict.{Verdict, fine, _>>_}
 use Rattle.extents.specs.Ruling.{ruled}
-use Rattle.extents.specs.Extents.{Disk, diskOf, start, inOrder, seek, since, decide}
+use Rattle.extents.specs.Extents.{Disk, diskOf, start, inOrder, ascending, seek, since, decide}
 use Rattle.files.specs.Read.{span, bytes, readAt}
 use Rattle.files.specs.Inner.{lay, Ready, readOver, stopOf}
 use Rattle.extents.specs.Inner.{extentsIn, judgeOf, judgedTold, judgedOf}
@@ -61,14 +61,14 @@ module _ (d : Disk) (size off len n m : ℕ) (qn : n ≡ min len (size - off)) (
   unfolding readAt judgeOf
   read-judged es = go (le-or-gt size off)
     where
-      go : (size ≤ off) ⊎ (off < size) → readAt d size es off len ≡ ((inOrder start 0 es >> decide d off m (since off es)) >> got (bytes d es off n))
+      go : (size ≤ off) ⊎ (off < size) → readAt d size es off len ≡ ((ascending es >> decide d off m (since off es)) >> got (bytes d es off n))
       go (inl h) =
           let z : n ≡ 0 = omega arith in
-          rw (assoc (inOrder start 0 es) (decide d off m (since off es)) (got (bytes d es off n)), stop-past h, decide-none d off (since off es), z, bytes-none d es off)
-          (ap (λ (x : Answer (List ℕ)). inOrder start 0 es >> x) (sym (at-most _ _ _ _ _ h refl)))
+          rw (assoc (ascending es) (decide d off m (since off es)) (got (bytes d es off n)), stop-past h, decide-none d off (since off es), z, bytes-none d es off)
+          (ap (λ (x : Answer (List ℕ)). ascending es >> x) (sym (at-most _ _ _ _ _ h refl)))
       go (inr h) =
-          rw (assoc (inOrder start 0 es) (decide d off m (since off es)) (got (bytes d es off n)), stop-sum h, qn)
-          (ap (λ (x : Answer (List ℕ)). inOrder start 0 es >> x) (sym (above _ _ _ _ _ h refl)))
+          rw (assoc (ascending es) (decide d off m (since off es)) (got (bytes d es off n)), stop-sum h, qn)
+          (ap (λ (x : Answer (List ℕ)). ascending es >> x) (sym (above _ _ _ _ _ h refl)))
 
 -- ---- a verdict over a counted list
 
@@ -100,7 +100,7 @@ module _ (c : Counted (List Extent)) (judge : List Extent → Verdict) (s : ℕ)
           absurd (let z : _≡_ {A = ℕ} 0 1 = cc in omega arith)
 
 -- what is sought in an ascending list ascends
-seek-rises : (off at : ℕ) (best es : List Extent) → inOrder start 0 best ≡ fine → inOrder start at es ≡ fine → inOrder start 0 (seek off best es) ≡ fine
+seek-rises : (off at : ℕ) (best es : List Extent) → ascending best ≡ fine → inOrder start at es ≡ fine → ascending (seek off best es) ≡ fine
 unfolding inOrder seek
 seek-rises off at best [] b c = b
 seek-rises off at best (e ∷ es) b c = go (le-or-gt (e .logical) off) (seek-rises off (e .logical) (e ∷ es) es)
@@ -108,7 +108,7 @@ seek-rises off at best (e ∷ es) b c = go (le-or-gt (e .logical) off) (seek-ris
     q : (at ≤ e .logical) × (inOrder start (e .logical) es ≡ fine)
     q = passed _ _ _ _ _ c
 
-    go : (e .logical ≤ off) ⊎ (off < e .logical) → (inOrder start 0 (e ∷ es) ≡ fine → inOrder start (e .logical) es ≡ fine → inOrder start 0 (seek off (e ∷ es) es) ≡ fine) → inOrder start 0 (seek off best (e ∷ es)) ≡ fine
+    go : (e .logical ≤ off) ⊎ (off < e .logical) → (ascending (e ∷ es) ≡ fine → inOrder start (e .logical) es ≡ fine → ascending (seek off (e ∷ es) es) ≡ fine) → ascending (seek off best (e ∷ es)) ≡ fine
     go (inl h) ih = rw (seek-takes off best e es h) (ih (lower at (e ∷ es) c) (q .1))
     go (inr h) ih = rw (seek-stays off best e es h) b
 
@@ -141,7 +141,7 @@ module _ (b : List ℕ) (q : Search) (size off len s n m : ℕ) (qn : n ≡ min 
     kept : extentsIn (extentAt (q .reader) b) (runOf b q (r .kept)) ≡ since off (all .0)
     kept = w .near h ∙ rw (held-list (extentAt (q .reader) b) (scanOf b q s) (all .0) (ap (λ (c : Counted (List Extent)). c .answer) (all .1 .0)))
 
-    judged : (inOrder start 0 (all .0) ≡ fine) × (decide (diskOf (q .reader) b) off m (since off (all .0)) ≡ fine)
+    judged : (ascending (all .0) ≡ fine) × (decide (diskOf (q .reader) b) off m (since off (all .0)) ≡ fine)
     unfolding judgeOf
     judged = went _ _ _ (all .1 .1)
 

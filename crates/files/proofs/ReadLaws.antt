@@ -1,5 +1,5 @@
 -- THE LAW of file reads: where the whole file is read, every read is a part of it.
-use Prim.Native.Nat.{ℕ, _+_, _*_, _-_, _^_, _≤_, _<_, min}
+use Prim.Native.Nat.{ℕ, _+_, _-_, _^_, _≤_, _<_, min}
 use mathlib.Core.Path.{_≡_, refl, sym, ap, _∙_}
 use mathlib.Core.List.{List, [], _∷_, _++_}
 use mathlib.Core.Logic.{_⊎_, inl, inr}
@@ -10,7 +10,7 @@ use lib.Seq.{take-nil, drop-drop, take-add}
 use Rattle.error.specs.Answer.{got}
 use Rattle.error.proofs.Laws.{at-most, above}
 use Rattle.extents.specs.Verdict.{fine}
-use Rattle.extents.specs.Extents.{Disk, start, end, inOrder, seek, since, counted, reach, allows, decide}
+use Rattle.extents.specs.Extents.{Disk, start, end, inOrder, apart, ascending, seek, since, counted, reach, allows, decide}
 use Rattle.extents.proofs.Verdicts.{was-most, was-above, le-or-gt, passed, went}
 use Rattle.extents.proofs.ExtentLaws.{blocks-mono, block-below, decide-stop, decide-goes, seek-takes, seek-stays, Touched, Sound, lies-is, lies-within, allowed-end, allowed-sound, sound-allowed}
 use Rattle.records.specs.declared.extent.Extent.{Extent}
@@ -79,7 +79,7 @@ skipped d size at h e (f ∷ es) c w = go (linked end at e f es c) (le-or-gt (f 
         ∙ rw (sound-allowed d 0 size e (omega arith) (λ t. absurd (omega (arith, t .some))), ih (l .1) (rw (seek-takes 0 (e ∷ f ∷ es) f es k) at w))
     go l (inr k) ih = rw (seek-stays 0 (e ∷ f ∷ es) f es k) at w
 
-pub unskipped : (d : Disk) (size : ℕ) → 0 < size → (es : List Extent) → inOrder end 0 es ≡ fine → decide d 0 size (since 0 es) ≡ fine → decide d 0 size es ≡ fine
+pub unskipped : (d : Disk) (size : ℕ) → 0 < size → (es : List Extent) → apart es ≡ fine → decide d 0 size (since 0 es) ≡ fine → decide d 0 size es ≡ fine
 unfolding seek
 unskipped d size h [] c w = w
 unskipped d size h (e ∷ es) c w = go (le-or-gt (e .logical) 0)
@@ -114,7 +114,7 @@ module _ (d : Disk) (off i : ℕ) (h : off ≤ i) where
       go l (inr k) ih = rw (seek-stays off (e ∷ f ∷ es) f es k)
 
   -- no byte from off on depends on an extent before the last that starts at or before off
-  pub since-byte : (es : List Extent) → inOrder end 0 es ≡ fine → byteAt d i (since off es) 0 ≡ byteAt d i es 0
+  pub since-byte : (es : List Extent) → apart es ≡ fine → byteAt d i (since off es) 0 ≡ byteAt d i es 0
   unfolding seek
   since-byte [] c = refl
   since-byte (e ∷ es) c = go (le-or-gt (e .logical) off)
@@ -126,11 +126,11 @@ module _ (d : Disk) (off i : ℕ) (h : off ≤ i) where
 -- ---- reads
 
 module _ (d : Disk) (size : ℕ) (es : List Extent) (off len : ℕ) where
-  pub read-past : inOrder start 0 es ≡ fine → size ≤ off → readAt d size es off len ≡ got []
+  pub read-past : ascending es ≡ fine → size ≤ off → readAt d size es off len ≡ got []
   unfolding readAt
   read-past c h = rw c (sym (at-most _ _ _ _ _ h refl))
 
-  pub read-is : inOrder start 0 es ≡ fine → off < size → decide d off (off + min len (size - off)) (since off es) ≡ fine
+  pub read-is : ascending es ≡ fine → off < size → decide d off (off + min len (size - off)) (since off es) ≡ fine
       → readAt d size es off len ≡ got (bytes d es off (min len (size - off)))
   unfolding readAt
   read-is c h w = rw c (sym (above _ _ _ _ _ h (rw w)))
@@ -138,7 +138,7 @@ module _ (d : Disk) (size : ℕ) (es : List Extent) (off len : ℕ) where
   pub read-was : (bs : List ℕ) → off < size → readAt d size es off len ≡ got bs
       → (decide d off (off + min len (size - off)) (since off es) ≡ fine) × (got (bytes d es off (min len (size - off))) ≡ got bs)
   unfolding readAt
-  read-was bs h e = went _ _ _ (was-above _ _ (got []) _ _ h (went (inOrder start 0 es) _ _ e .1))
+  read-was bs h e = went _ _ _ (was-above _ _ (got []) _ _ h (went (ascending es) _ _ e .1))
 
   -- the answer is exactly as long as what there is
   pub read-length : (bs : List ℕ) → readAt d size es off len ≡ got bs → length bs ≡ min len (size - off)
@@ -147,7 +147,7 @@ module _ (d : Disk) (size : ℕ) (es : List Extent) (off len : ℕ) where
     where
       go : (size ≤ off) ⊎ (off < size) → length bs ≡ min len (size - off)
       go (inl h) =
-          let q : bs ≡ [] = cc (was-most _ _ _ _ _ h (went (inOrder start 0 es) _ _ e .1)) in
+          let q : bs ≡ [] = cc (was-most _ _ _ _ _ h (went (ascending es) _ _ e .1)) in
           rw q (omega arith)
       go (inr h) =
           let q : bs ≡ bytes d es off (min len (size - off)) = cc (read-was bs h e .1) in
@@ -156,20 +156,20 @@ module _ (d : Disk) (size : ℕ) (es : List Extent) (off len : ℕ) where
 module _ (d : Disk) (size : ℕ) (es : List Extent) (bs : List ℕ) (pos : 0 < d .block) (small : length (d .image) ≤ 2 ^ 64) (all : readAll d size es ≡ got bs) where
   all-length : length bs ≡ size
   unfolding readAll
-  all-length = read-length d size es 0 size bs (went (inOrder end 0 es) _ _ all .1) ∙ omega arith
+  all-length = read-length d size es 0 size bs (went (apart es) _ _ all .1) ∙ omega arith
 
   -- THE LAW
   pub read-part : (off len : ℕ) → readAt d size es off len ≡ got (take len (drop off bs))
   unfolding readAll bytes
   read-part off len = go (le-or-gt size off)
     where
-      a : (inOrder end 0 es ≡ fine) × (readAt d size es 0 size ≡ got bs)
-      a = went (inOrder end 0 es) _ _ all
+      a : (apart es ≡ fine) × (readAt d size es 0 size ≡ got bs)
+      a = went (apart es) _ _ all
 
       n : ℕ
       n = min len (size - off)
 
-      up : inOrder start 0 es ≡ fine
+      up : ascending es ≡ fine
       up = apart-ascend 0 0 es (omega arith) (a .0)
 
       go : (size ≤ off) ⊎ (off < size) → readAt d size es off len ≡ got (take len (drop off bs))

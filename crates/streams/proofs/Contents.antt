@@ -1,12 +1,11 @@
 -- A stream's contents are what settling it refuses, and else the bytes that are written.
-use Prim.Native.Nat.{ℕ, suc, _+_, _-_, _≤_, _<_, min}
-use mathlib.Core.Path.{_≡_, refl, sym, ap, _∙_}
+use Prim.Native.Nat.{ℕ, _-_, _≤_, _<_, min}
+use mathlib.Core.Path.{_≡_, refl, sym}
 use mathlib.Core.List.{List, [], _∷_, _++_, append-assoc}
 use mathlib.Core.Logic.{_⊎_, inl, inr}
 use native.Mathlib.Omega.{arith}
 use lib.ListN.{replicate}
 use Rattle.error.specs.Answer.{Answer, got, no}
-use Rattle.error.specs.declared.Refusal.{Refusal}
 use Rattle.error.proofs.Laws.{at-most, above}
 use Rattle.lookup.specs.Counted.{Counted, after, from, onto}
 use Rattle.btree.specs.Scan.{Run, more, end, refused, scanOf}

@@ -1,12 +1,12 @@
 -- One extent of a stream, as the code judges it, and the turns of the judging loop.
-use Prim.Native.Nat.{ℕ, zero, suc, _+_, _*_, _-_, _/_, _^_, _≤_, _<_, min, max}
+use Prim.Native.Nat.{ℕ, _+_, _-_, _≤_, _<_, min, max}
 use mathlib.Core.Path.{_≡_, refl, sym, ap, _∙_}
 use mathlib.Core.List.{List, [], _∷_}
 use mathlib.Core.Logic.{_⊎_, inl, inr}
 use native.Mathlib.Omega.{arith}
 use mir.Syntax.{w64}
 use mir.Val.{Fits}
-use Rattle.error.specs.Answer.{Answer, got, no, ifLe, ifEq}
+use Rattle.error.specs.Answer.{Answer, got, no}
 use Rattle.error.specs.declared.Refusal.{Refusal}
 use Rattle.error.specs.declared.Refusal.the-variants.{Corrupt}
 use Rattle.error.proofs.Laws.{at-most, above, same, other}
@@ -25,8 +25,8 @@ use Rattle.records.specs.declared.extent.ExtentRead.{ExtentRead}
 use Rattle.lists.specs.Lists.{searchOf, listOf, extentsOf}
 use Rattle.lists.proofs.Reading.{reading, list-start, list-end, list-next}
 use Rattle.lists.proofs.Turns as list-turns
-use Rattle.extents.specs.Verdict.{Verdict, fine, _>>_, atMost}
-use Rattle.extents.specs.Extents.{Disk, diskOf, blocks, countedIn, counted, lies}
+use Rattle.extents.specs.Verdict.{Verdict, fine, _>>_}
+use Rattle.extents.specs.Extents.{Disk, diskOf, blocks, countedIn, lies}
 use Rattle.streams.specs.Inner.{ready, settle, wantedOf, nextPos, stepVerdict, poured, settledBy}
 use Rattle.extents.specs.Ruling.{ruled}
 use Rattle.extents.specs.declared.verdict.Ruling.{Ruling}

@@ -1,26 +1,23 @@
 -- The bytes of a stream, as the code writes them.
-use Prim.Native.Nat.{ℕ, zero, suc, _+_, _*_, _-_, _/_, _^_, _≤_, _<_, min, max}
-use mathlib.Core.Path.{_≡_, refl, sym, ap, _∙_}
-use mathlib.Core.List.{List, [], _∷_, _++_, append-nil}
+use Prim.Native.Nat.{ℕ, suc, _*_, _-_, _/_, _^_, _≤_, _<_, min, max}
+use mathlib.Core.Path.{_≡_, refl, ap, _∙_}
+use mathlib.Core.List.{List, [], _∷_, _++_}
 use native.Mathlib.Omega.{arith}
 use native.Mathlib.Nat.{div-lt-iff-lt-mul, le-div-iff-mul-le}
 use mathlib.Core.Logic.{_⊎_, inl, inr}
 use Rattle.extents.proofs.Verdicts.{le-or-gt}
 use Rattle.obj.specs.declared.reader.Reader.{Reader}
-use lib.ListN.{length, take, drop, replicate, drop-of-length-le}
-use lib.Seq.{take-nil}
+use lib.ListN.{length, drop, replicate, drop-of-length-le}
 use mir.Syntax.{w64}
 use mir.Val.{Fits}
-use Rattle.error.specs.Answer.{Answer, got, no}
 use Rattle.error.specs.declared.Refusal.{Refusal}
 use Rattle.error.proofs.Laws.{at-most, above}
 use Rattle.bytes.specs.Part.{partOf}
-use Rattle.bytes.specs.declared.Span.{Span}
 use Rattle.text.specs.Output.{Output, puts}
 use Rattle.text.specs.Words.{pairs}
 use Rattle.text.proofs.Digits.{pairs-append, pairs-join}
 use Rattle.text.proofs.Writing.{puts-append, stopped}
-use Rattle.btree.specs.Scan.{Run, more, end, refused, scanOf}
+use Rattle.btree.specs.Scan.{scanOf}
 use Rattle.btree.specs.declared.entries.Search.{Search}
 use Rattle.btree.specs.declared.entries.Place.{Place}
 use Rattle.btree.specs.declared.entries.Found.the-variants.{At, End, No}

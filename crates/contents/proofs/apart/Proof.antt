@@ -6,7 +6,7 @@ use Rattle.cursor.specs.Left.{runOf}
 use Rattle.records.specs.Extent.{extentAt}
 use Rattle.lists.specs.Lists.{listOf}
 use Rattle.lists.proofs.Reading.{reading}
-use Rattle.extents.specs.Extents.{end, inOrder}
+use Rattle.extents.specs.Extents.{apart}
 use Rattle.extents.specs.Ruling.{ruled}
 use borrow.Author.Needs.{needs}
 use Rattle.contents.proofs.Laws.{aparts, ordering, apart-next}
@@ -14,7 +14,7 @@ use Rattle.contents.proofs.apart.Statement.{statement}
 use Rattle.contents.proofs.apart.Tie as tie
 
 abbrev Inv-loop : tie.InvT-loop
-Inv-loop image q nodes reader ruling₀ last₀ s₀ ruling last s = reading (extentAt (q .reader) image) (ordering (ruled ruling) last) (runOf image q s) ≡ (onto (listOf (extentAt (q .reader) image) (scanOf image q nodes)) λ es t. after t (inOrder end 0 es))
+Inv-loop image q nodes reader ruling₀ last₀ s₀ ruling last s = reading (extentAt (q .reader) image) (ordering (ruled ruling) last) (runOf image q s) ≡ (onto (listOf (extentAt (q .reader) image) (scanOf image q nodes)) λ es t. after t (apart es))
 
 abbrev μ-loop : tie.MeasureT-loop
 μ-loop image q nodes reader ruling₀ last₀ s₀ ruling last s = size (runOf image q s)

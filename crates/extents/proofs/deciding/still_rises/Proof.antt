@@ -1,4 +1,3 @@
-use borrow.Author.Needs.{needs}
 use Rattle.extents.proofs.JudgeLaws.{steps}
 use Rattle.extents.proofs.deciding.still_rises.Statement.{statement}
 use Rattle.extents.proofs.deciding.still_rises.Tie as tie
