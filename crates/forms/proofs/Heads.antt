@@ -5,7 +5,7 @@ use mathlib.Core.List.{List, []}
 use mathlib.Core.Option.{Option}
 use native.Mathlib.Omega.{arith}
 use borrow.Author.Needs.{needs}
-use Rattle.error.specs.Answer.{Answer, got, no}
+use Rattle.error.specs.Answer.{Answer, got, no, _>>=_}
 use Rattle.error.specs.declared.Refusal.{Refusal}
 use Rattle.lookup.specs.Counted.{Counted, after, onto}
 use Rattle.text.specs.Output.{Output, at, refused, outputOf, puts}
@@ -26,7 +26,7 @@ use Rattle.lists.specs.declared.attributes.AttributeAt.{AttributeAt}
 use Rattle.lines.specs.Shown.{inodeShown}
 use Rattle.lines.specs.Lines.{nodeLine}
 use Rattle.demand.specs.Trace.{End, done, stop, Trace, says, _then_, reading}
-use Rattle.forms.specs.Inner.{ending, run, endOf, readable, attributeTraces, dataTrace, headTrace}
+use Rattle.forms.specs.Inner.{ending, run, endOf, Tested, readable, attributeTraces, dataTrace, listsOf, headTrace}
 use Rattle.forms.proofs.Running.{run-says, run-refused, run-then, reading-got, reading-no}
 use Rattle.forms.proofs.Walking.{listed}
 
@@ -48,11 +48,12 @@ module _ {A : Type 0} (c : Counted (List A)) (k n : ℕ) where
 
 -- so that a list which is only read ends as its answer does
 module _ {A : Type 0} (c : Counted (List A)) (k n : ℕ) (p : Position) where
-  tested-no : (w : Refusal) (x : Position) → after n (no w) ≡ placed k c → ((l : List ℕ) → outputOf x l ≡ ending (stop w) (outputOf p l))
-      → (l : List ℕ) → outputOf x l ≡ ending (endOf (c .answer)) (outputOf p l)
+  tested-no : (w : Refusal) (x : Position) → after n (no w) ≡ placed k c → ((l : List ℕ) → outputOf x l ≡ ending (stop w) (outputOf p l)) → Tested (c .answer) p x
+  unfolding Tested
   tested-no w x h g l = g l ∙ ap (λ (a : Answer (List A)). ending (endOf a) (outputOf p l)) (sym (placed-no c k n w h))
 
-  tested-done : (o : Option A) → after n (got o) ≡ placed k c → (l : List ℕ) → outputOf p l ≡ ending (endOf (c .answer)) (outputOf p l)
+  tested-done : (o : Option A) → after n (got o) ≡ placed k c → Tested (c .answer) p p
+  unfolding Tested
   tested-done o h l = ap (λ (x : End). ending x (outputOf p l)) (sym (placed-done c k n o h))
 
 module _ (b : List ℕ) (v : Volume) (id k : ℕ) (p : Position) where
@@ -60,45 +61,46 @@ module _ (b : List ℕ) (v : Volume) (id k : ℕ) (p : Position) where
     entry-found : (x : EntryAt) → r .entry ≡ x → entryFound (record { entry = x; nodes = r .nodes }) ≡ placed k (entriesOf b v id 0)
     entry-found x q = ap (λ (y : EntryAt). entryFound (record { entry = y; nodes = r .nodes })) (sym q) ∙ h
 
-    pub entries-no : (w : Refusal) (x : Position) → r .entry ≡ EntryAt.No w → ((l : List ℕ) → outputOf x l ≡ ending (stop w) (outputOf p l))
-        → (l : List ℕ) → outputOf x l ≡ ending (endOf (entriesOf b v id 0 .answer)) (outputOf p l)
+    pub entries-no : (w : Refusal) (x : Position) → r .entry ≡ EntryAt.No w → ((l : List ℕ) → outputOf x l ≡ ending (stop w) (outputOf p l)) → Tested (entriesOf b v id 0 .answer) p x
     entries-no w x q = tested-no (entriesOf b v id 0) k (r .nodes) p w x (entry-found _ q)
 
-    pub entries-at : (y : Entry) → r .entry ≡ EntryAt.At y → (l : List ℕ) → outputOf p l ≡ ending (endOf (entriesOf b v id 0 .answer)) (outputOf p l)
+    pub entries-at : (y : Entry) → r .entry ≡ EntryAt.At y → Tested (entriesOf b v id 0 .answer) p p
     entries-at y q = tested-done (entriesOf b v id 0) k (r .nodes) p _ (entry-found _ q)
 
-    pub entries-over : r .entry ≡ EntryAt.Nothing → (l : List ℕ) → outputOf p l ≡ ending (endOf (entriesOf b v id 0 .answer)) (outputOf p l)
+    pub entries-over : r .entry ≡ EntryAt.Nothing → Tested (entriesOf b v id 0 .answer) p p
     entries-over q = tested-done (entriesOf b v id 0) k (r .nodes) p _ (entry-found _ q)
 
   module _ (r : AttributeFound) (h : attributeFound r ≡ placed k (attributesOf b v id 0)) where
     attribute-found : (x : AttributeAt) → r .attribute ≡ x → attributeFound (record { attribute = x; nodes = r .nodes }) ≡ placed k (attributesOf b v id 0)
     attribute-found x q = ap (λ (y : AttributeAt). attributeFound (record { attribute = y; nodes = r .nodes })) (sym q) ∙ h
 
-    pub attributes-no : (w : Refusal) (x : Position) → r .attribute ≡ AttributeAt.No w → ((l : List ℕ) → outputOf x l ≡ ending (stop w) (outputOf p l))
-        → (l : List ℕ) → outputOf x l ≡ ending (endOf (attributesOf b v id 0 .answer)) (outputOf p l)
+    pub attributes-no : (w : Refusal) (x : Position) → r .attribute ≡ AttributeAt.No w → ((l : List ℕ) → outputOf x l ≡ ending (stop w) (outputOf p l)) → Tested (attributesOf b v id 0 .answer) p x
     attributes-no w x q = tested-no (attributesOf b v id 0) k (r .nodes) p w x (attribute-found _ q)
 
-    pub attributes-at : (y : Attribute) → r .attribute ≡ AttributeAt.At y → (l : List ℕ) → outputOf p l ≡ ending (endOf (attributesOf b v id 0 .answer)) (outputOf p l)
+    pub attributes-at : (y : Attribute) → r .attribute ≡ AttributeAt.At y → Tested (attributesOf b v id 0 .answer) p p
     attributes-at y q = tested-done (attributesOf b v id 0) k (r .nodes) p _ (attribute-found _ q)
 
-    pub attributes-over : r .attribute ≡ AttributeAt.Nothing → (l : List ℕ) → outputOf p l ≡ ending (endOf (attributesOf b v id 0 .answer)) (outputOf p l)
+    pub attributes-over : r .attribute ≡ AttributeAt.Nothing → Tested (attributesOf b v id 0 .answer) p p
     attributes-over q = tested-done (attributesOf b v id 0) k (r .nodes) p _ (attribute-found _ q)
 
 -- the one list, then the other
-pub lists-read : (b : List ℕ) (v : Volume) (id : ℕ) (p q r : Position) → ((l : List ℕ) → outputOf q l ≡ ending (endOf (attributesOf b v id 0 .answer)) (outputOf p l))
-    → ((l : List ℕ) → outputOf r l ≡ ending (endOf (entriesOf b v id 0 .answer)) (outputOf q l))
-    → (l : List ℕ) → outputOf r l ≡ ending (endOf (entriesOf b v id 0 .answer)) (ending (endOf (attributesOf b v id 0 .answer)) (outputOf p l))
-lists-read b v id p q r e f l = f l ∙ ap (ending (endOf (entriesOf b v id 0 .answer))) (e l)
+ended-once : (e : Refusal) (a : End) (o : Output) → ending a (ending (stop e) o) ≡ ending (stop e) o
+ended-once e done o = refl
+ended-once e (stop w) (at b n) = refl
+ended-once e (stop w) (refused x) = refl
+
+pub lists-tested : (b : List ℕ) (v : Volume) (id : ℕ) (p q r : Position) → Tested (attributesOf b v id 0 .answer) p q → Tested (entriesOf b v id 0 .answer) q r → Tested (listsOf b v id) p r
+unfolding Tested listsOf
+lists-tested b v id p q r e f l = f l ∙ ap (ending (endOf (entriesOf b v id 0 .answer))) (e l) ∙ of (attributesOf b v id 0 .answer)
+  where
+    of : (a : Answer (List Attribute)) → ending (endOf (entriesOf b v id 0 .answer)) (ending (endOf a) (outputOf p l)) ≡ ending (endOf (a >>= λ x. entriesOf b v id 0 .answer)) (outputOf p l)
+    of (got x) = refl
+    of (no w) = ended-once w (endOf (entriesOf b v id 0 .answer)) (outputOf p l)
 
 -- a refusal stays
 stays : (room : ℕ) (t : Trace) (w : Refusal) (o : Output) → run room t (ending (stop w) o) ≡ ending (stop w) o
 stays room t w (at b n) = run-refused room t w
 stays room t w (refused e) = run-refused room t e
-
-ends-once : (e : End) (w : Refusal) (o : Output) → ending e (ending (stop w) o) ≡ ending (stop w) o
-ends-once done w o = refl
-ends-once (stop e) w (at b n) = refl
-ends-once (stop e) w (refused x) = refl
 
 module _ (room : ℕ) (b : List ℕ) (v : Volume) (i : Inode) (o p : Output) (h : p ≡ puts room (nodeLine (inodeShown (v .reader) b i) []) o) where
   -- what follows the line
@@ -118,9 +120,9 @@ module _ (room : ℕ) (b : List ℕ) (v : Volume) (i : Inode) (o p : Output) (h 
   abbrev body : Output → Output
   body x = run room (dataTrace b v i) (run room (attributeTraces b v (readable (attributeAt (v .reader) b) (scanOf b (searchOf v (i .id) 4) 0))) x)
 
-  head-whole : (q r z : Output) → q ≡ ending (endOf (entriesOf b v (i .id) 0 .answer)) (ending (endOf (attributesOf b v (i .id) 0 .answer)) p) → r ≡ run room (attributeTraces b v (readable (attributeAt (v .reader) b) (scanOf b (searchOf v (i .id) 4) 0))) q
+  head-whole : (q r z : Output) → q ≡ ending (endOf (listsOf b v (i .id))) p → r ≡ run room (attributeTraces b v (readable (attributeAt (v .reader) b) (scanOf b (searchOf v (i .id) 4) 0))) q
       → z ≡ run room (dataTrace b v i) r → z ≡ run room (headTrace b v i) o
-  unfolding attributesOf
+  unfolding listsOf attributesOf
   head-whole q r z e f g = g ∙ ap (run room (dataTrace b v i)) f ∙ ap body e ∙ of (attributesOf b v (i .id) 0 .answer) (entriesOf b v (i .id) 0 .answer) refl ∙ after-line
     where
       of-list : (l : List Attribute) → attributesOf b v (i .id) 0 .answer ≡ got l → readable (attributeAt (v .reader) b) (scanOf b (searchOf v (i .id) 4) 0) ≡ l
@@ -129,8 +131,8 @@ module _ (room : ℕ) (b : List ℕ) (v : Volume) (i : Inode) (o p : Output) (h 
       shut : (w : Refusal) → body (ending (stop w) p) ≡ ending (stop w) p
       shut w = ap (run room (dataTrace b v i)) (stays room _ w p) ∙ stays room _ w p
 
-      of : (l : Answer (List Attribute)) (es : Answer (List Entry)) → attributesOf b v (i .id) 0 .answer ≡ l → body (ending (endOf es) (ending (endOf l) p)) ≡ run room (lists l es) p
-      of (no w) es k = ap body (ends-once (endOf es) w p) ∙ shut w ∙ reading-no room (no w) _ p w (ending (stop w) p) refl refl
+      of : (l : Answer (List Attribute)) (es : Answer (List Entry)) → attributesOf b v (i .id) 0 .answer ≡ l → body (ending (endOf (l >>= λ x. es)) p) ≡ run room (lists l es) p
+      of (no w) es k = shut w ∙ reading-no room (no w) _ p w (ending (stop w) p) refl refl
       of (got l) (no w) k = shut w ∙ reading-no room (no w) _ p w (ending (stop w) p) refl refl ∙ reading-got room (got l) (λ x. reading (no w) λ y. attributeTraces b v x then dataTrace b v i) p l _ refl refl
       of (got l) (got es) k =
           let m : readable (attributeAt (v .reader) b) (scanOf b (searchOf v (i .id) 4) 0) ≡ l = of-list l k in
@@ -142,9 +144,9 @@ module _ (room : ℕ) (b : List ℕ) (v : Volume) (i : Inode) (o : Output) (a : 
   pub head-refused : (w : Refusal) → a ≡ No w → refused w ≡ run room (headTrace b v i) o
   head-refused w e = head-stopped room b v i o (outputOf a l) h w (ap (λ (x : Position). outputOf x l) (sym e))
 
-  pub head-all : (q : Position) (r z : Output)
-      → ((c : List ℕ) → outputOf q c ≡ ending (endOf (entriesOf b v (i .id) 0 .answer)) (ending (endOf (attributesOf b v (i .id) 0 .answer)) (outputOf a c)))
+  pub head-all : (q : Position) (r z : Output) → Tested (listsOf b v (i .id)) a q
       → r ≡ run room (attributeTraces b v (readable (attributeAt (v .reader) b) (scanOf b (searchOf v (i .id) 4) 0))) (outputOf q l) → z ≡ run room (dataTrace b v i) r → z ≡ run room (headTrace b v i) o
+  unfolding Tested
   head-all q r z e f g = head-whole room b v i o (outputOf a l) h (outputOf q l) r z (e l) f g
 
-pub ruleset heads = (needs, entries-no, entries-at, entries-over, attributes-no, attributes-at, attributes-over, head-refused, head-all)
+pub ruleset heads = (needs, entries-no, entries-at, entries-over, attributes-no, attributes-at, attributes-over, lists-tested, head-refused, head-all)

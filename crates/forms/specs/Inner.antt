@@ -3,10 +3,12 @@
 -- `readable` of a list without a fault is the list (`listed`, proofs/Walking.antt); and `headTrace`, with the entries' forms, is demand's `formOver` at
 -- what the volume answers (`node-run`, listing, proofs/Nodes.antt).
 use Prim.Native.Nat.{ℕ}
+use mathlib.Core.Path.{_≡_}
 use mathlib.Core.List.{List, [], _∷_}
 use mathlib.Core.Option.{Option, none, some}
-use Rattle.error.specs.Answer.{Answer, got, no, ifEq}
-use Rattle.text.specs.Output.{Output, at, refused, puts}
+use Rattle.error.specs.Answer.{Answer, got, no, _>>=_, ifEq}
+use Rattle.text.specs.Output.{Output, at, refused, outputOf, puts}
+use Rattle.text.specs.declared.Position.{Position}
 use Rattle.btree.specs.Scan as scan
 use Rattle.btree.specs.declared.entries.Place.{Place}
 use Rattle.btree.specs.declared.entries.Found.{Found}
@@ -47,6 +49,10 @@ run room t o = ending (t .ended) (puts room (t .text) o)
 abbrev pub endOf : {A : Type 0} → Answer A → trace.End
 endOf (got x) = done
 endOf (no e) = stop e
+
+-- how a position goes on after something that is only read: as it was, or refused
+unfoldable pub Tested : {A : Type 0} → Answer A → Position → Position → Type 0
+Tested a p r = (b : List ℕ) → outputOf r b ≡ ending (endOf a) (outputOf p b)
 
 -- ---- the elements of a run that can be read, up to the first that can't
 
@@ -96,6 +102,10 @@ plainTrace b v i = reading (readPlain b v i 0 .answer) λ d. says (contentsLine 
 
 unfoldable pub dataTrace : List ℕ → Volume → Inode → Trace
 dataTrace b v i = ifEq (compressed i) 1 (says (contentsLine shown.packed [])) (plainTrace b v i)
+
+-- "all its attributes, then all its entries, are read"
+unfoldable pub listsOf : List ℕ → Volume → ℕ → Answer (List Entry)
+listsOf b v id = attributesOf b v id 0 .answer >>= λ l. entriesOf b v id 0 .answer
 
 -- a node up to its entries
 unfoldable pub headTrace : List ℕ → Volume → Inode → Trace

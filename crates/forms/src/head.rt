@@ -11,15 +11,13 @@ use lists::entry_at;
 use text::Position;
 use volume::Volume;
 ghost use mathlib.Core.Path.{_≡_};
-ghost use mathlib.Core.List.{List};
-ghost use Prim.Native.Nat.{ℕ};
 ghost use Rattle.text.specs.Output.{outputOf};
 ghost use Rattle.lists.specs.Lists.{attributesOf, entriesOf};
-ghost use Rattle.forms.specs.Inner.{run, ending, endOf, headTrace};
+ghost use Rattle.forms.specs.Inner.{run, Tested, listsOf, headTrace};
 
 // A place that no list reaches: the whole list is read.
 fn read_attributes(p: Position, image: &[u8], v: Volume, id: u64) -> Position
-    ensures { λ r. ⌜ ((b : List ℕ) → outputOf r b ≡ ending (endOf (attributesOf (now (image .entry)) v id 0 .answer)) (outputOf p b)) ⌝ }
+    ensures { λ r. ⌜ Tested (attributesOf (now (image .entry)) v id 0 .answer) p r ⌝ }
 {
     let found = attribute_at(image, v, id, 18446744073709551615, 0);
     let attribute = found.attribute;
@@ -31,7 +29,7 @@ fn read_attributes(p: Position, image: &[u8], v: Volume, id: u64) -> Position
 }
 
 fn read_entries(p: Position, image: &[u8], v: Volume, id: u64) -> Position
-    ensures { λ r. ⌜ ((b : List ℕ) → outputOf r b ≡ ending (endOf (entriesOf (now (image .entry)) v id 0 .answer)) (outputOf p b)) ⌝ }
+    ensures { λ r. ⌜ Tested (entriesOf (now (image .entry)) v id 0 .answer) p r ⌝ }
 {
     let found = entry_at(image, v, id, 18446744073709551615, 0);
     let entry = found.entry;
@@ -43,7 +41,7 @@ fn read_entries(p: Position, image: &[u8], v: Volume, id: u64) -> Position
 }
 
 fn read_lists(p: Position, image: &[u8], v: Volume, id: u64) -> Position
-    ensures { λ r. ⌜ ((b : List ℕ) → outputOf r b ≡ ending (endOf (entriesOf (now (image .entry)) v id 0 .answer)) (ending (endOf (attributesOf (now (image .entry)) v id 0 .answer)) (outputOf p b))) ⌝ }
+    ensures { λ r. ⌜ Tested (listsOf (now (image .entry)) v id) p r ⌝ }
 {
     let a = read_attributes(p, image, v, id);
     read_entries(a, image, v, id)

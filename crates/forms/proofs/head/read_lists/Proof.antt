@@ -1,5 +1,5 @@
 use borrow.Author.Needs.{needs}
-use Rattle.forms.proofs.Heads.{lists-read}
+use Rattle.forms.proofs.Heads.{heads}
 use Rattle.forms.proofs.head.read_lists.Statement.{statement}
 use Rattle.forms.proofs.head.read_lists.Tie as tie
 
@@ -9,4 +9,4 @@ read-lists-spec =
     (tie.spec
     (λ c κs. search needs)
     (λ c κs. search needs)
-    (λ c. lists-read _ _ _ (c .before .before .before .args .p) (c .before .read-attributes .result) (c .read-entries .result) (c .before .read-attributes .ensures) (c .read-entries .ensures)))
+    (λ c. search heads))
