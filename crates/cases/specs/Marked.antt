@@ -10,7 +10,7 @@ use Rattle.name_hash.specs.Hash.{nameHash, nameLenAndHash}
 use Rattle.node.specs.Node.{laidOut}
 use Rattle.geometry.specs.BlockZero.{sizeOk}
 use Rattle.volume.specs.declared.Volume.{Volume}
-use Rattle.lists.specs.Lists.{inodeOf}
+use Rattle.lists.specs.Lists.{rootOf}
 use Rattle.paths.specs.Lookup.{lookupPath}
 use Rattle.leaves.specs.Leaves.{valueOr, refusalIn}
 
@@ -45,5 +45,5 @@ pub record MarkedLines : Type 0 where
   pub invalid-34 : (b : List ℕ) → length b ≡ 34 → valid b ≡ false
   pub numbers : given ≡ said
   -- "paths "" and "//" are the root", in any volume of any image
-  pub empty-is-root : (image : List ℕ) (v : Volume) (nodes : ℕ) → lookupPath image v [] nodes ≡ inodeOf image v 2 nodes
-  pub slashes-are-root : (image : List ℕ) (v : Volume) (nodes : ℕ) → lookupPath image v (47 ∷ 47 ∷ []) nodes ≡ inodeOf image v 2 nodes
+  pub empty-is-root : (image : List ℕ) (v : Volume) (nodes : ℕ) → lookupPath image v [] nodes ≡ rootOf image v nodes
+  pub slashes-are-root : (image : List ℕ) (v : Volume) (nodes : ℕ) → lookupPath image v (47 ∷ 47 ∷ []) nodes ≡ rootOf image v nodes

@@ -30,7 +30,7 @@ use Rattle.volume.specs.Open.{volumeOfImage}
 use Rattle.volume.specs.declared.Volume.{Volume}
 use Rattle.records.specs.declared.attribute.Attribute.{Attribute}
 use Rattle.label.specs.Label.{labelOf}
-use Rattle.lists.specs.Lists.{inodeOf, entriesOf, attributesOf}
+use Rattle.lists.specs.Lists.{rootId, inodeOf, entriesOf, attributesOf}
 use Rattle.files.specs.File.{readFile, readWhole}
 use Rattle.links.specs.Link.{contentsOf}
 use Rattle.paths.specs.Names.{ruleOf}
@@ -129,9 +129,9 @@ unfoldable pub follow : View → Met → List ℕ → Met
 follow v m [] = m
 follow v m (k ∷ c) = follow v (onward v m k) c
 
--- "A chain is a list of positions counted from 0, of any length. The empty chain leads to the `root` inode" (ROOT_DIR_INO_NUM is 2)
+-- "A chain is a list of positions counted from 0, of any length. The empty chain leads to the `root` inode"
 abbrev pub chain : View → List ℕ → Met
-chain v c = follow v (met (v.inode 2)) c
+chain v c = follow v (met (v.inode rootId)) c
 
 -- what two volumes give where a chain leads: it leads nowhere on both; or on both to an inode, with the same fields, entries, attributes with their
 -- contents, and the same answer to a file read at every offset and length

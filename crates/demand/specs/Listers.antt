@@ -15,6 +15,7 @@ use lib.IntN.{pos}
 use lib.Dec.{eqb}
 use lib.ListN.{getD, take, drop}
 use Rattle.error.specs.Answer.{Answer, got, _>>=_}
+use Rattle.lists.specs.Lists.{rootId}
 use Rattle.lines.specs.Shown.{InodeShown, EntryShown}
 use Rattle.demand.specs.Trace.{Trace, says, within}
 use Rattle.demand.specs.View.{View}
@@ -38,7 +39,7 @@ fixedText s image v = says s
 
 -- "each root well", and "deeper nodes blank"
 unfoldable pub rootAlone : List ℕ → View → Trace
-rootAlone image v = volumeOver v (formOver v (λ id. says []) 2)
+rootAlone image v = volumeOver v (formOver v (λ id. says []) rootId)
 
 -- "copies the image out"
 abbrev pub imageItself : List ℕ → View → Trace

@@ -6,6 +6,7 @@ use lib.Dec.{eqb}
 use Rattle.error.specs.Answer.{Answer, pick}
 use Rattle.error.specs.declared.Refusal.the-variants.{TooDeep}
 use Rattle.inode_record.specs.Inode.{compressedBit}
+use Rattle.lists.specs.Lists.{rootId}
 use Rattle.lines.specs.Shown.{InodeShown, EntryShown, AttributeShown, packed, plain}
 use Rattle.lines.specs.Lines.{volumeLine, nodeLine, attributeLine, contentsLine, entryLine, close}
 use Rattle.demand.specs.Trace.{Trace, says, refuses, _then_, reading, within}
@@ -58,7 +59,7 @@ abbrev pub volumeOver : View → Trace → Trace
 volumeOver v root = says (volumeLine (v.rule .«case_insensitive») (v.rule .«normalization_insensitive») v.label []) then root then says (close [])
 
 unfoldable pub trace : View → Trace
-trace v = volumeOver v (nodeForm v levels 2)
+trace v = volumeOver v (nodeForm v levels rootId)
 
 -- a listing into a buffer of `room` bytes
 unfoldable pub listing : View → ℕ → Answer (List ℕ)

@@ -5,6 +5,7 @@ use mathlib.Core.List.{List, [], _∷_}
 use Rattle.error.specs.Answer.{Answer, no, _>>=_, pick}
 use Rattle.error.specs.declared.Refusal.the-variants.{PathNotUtf8}
 use Rattle.utf8.specs.Text.{strict}
+use Rattle.lists.specs.Lists.{rootId}
 use Rattle.paths.specs.Parts.{partsOf}
 use Rattle.paths.specs.Find.{findEntry}
 use Rattle.lines.specs.Shown.{InodeShown, EntryShown}
@@ -20,4 +21,4 @@ descend v a (p ∷ ps) = descend v (a >>= λ f. v.entries f.id >>= λ es. findEn
 
 -- from the root; 5 "path not UTF-8, after opening and before the root is read"
 unfoldable pub lookup : View → List ℕ → Answer InodeShown
-lookup v path = pick (strict path) (descend v (v.inode 2) (partsOf path)) (no PathNotUtf8)
+lookup v path = pick (strict path) (descend v (v.inode rootId) (partsOf path)) (no PathNotUtf8)

@@ -4,6 +4,7 @@ use demand::levels;
 use error::Refusal;
 use label::label_of;
 use lines::put_volume_line;
+use lists::ROOT;
 use paths::name_rule;
 use text::Position;
 use text::clear;
@@ -35,7 +36,7 @@ fn put_listing(out: &mut [u8], image: &[u8], v: Volume) -> Position
         rule.normalization_insensitive,
         label,
     );
-    let b = put_node(out, room, a, image, v, 2, levels());
+    let b = put_node(out, room, a, image, v, ROOT, levels());
     put_all(out, room, b, b")\n")
 }
 
