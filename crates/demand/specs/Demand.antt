@@ -12,7 +12,7 @@
 -- Of which calls: opening (`volumeOfImage`), `inode`, `read_dir`, `xattrs`, `read_xattr`, `read_at` and `lookup_path` by the definitions that their
 -- contracts cite (`inodeOf`, `entriesOf`, `attributesOf`, `contentsOf`, `readFile`, `lookupPath`), and the listing by `listingOf`. Names and the label are
 -- lossily read; places in the image and node counts are left out, and no answer depends on a count (proofs/Counts.antt). What that gives for the texts
--- of `apfs_lookup`, `apfs_read`, `apfs_entry` and `apfs_xattr` stands in apfs, proofs/Alike.antt.
+-- of `apfs_lookup`, `apfs_read`, `apfs_entry`, `apfs_entries`, `apfs_xattr`, `apfs_xattr_bytes` and `apfs_link` stands in apfs, proofs/Alike.antt.
 --
 -- What is assumed: nothing. An image is any list of numbers; 2 says of the two that they are lists of bytes, numbers below 256, as every slice of
 -- bytes is, for only then is no file longer than 2^64 − 1.
