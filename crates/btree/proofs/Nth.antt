@@ -15,8 +15,7 @@ use Rattle.lookup.specs.Counted.{Counted, after}
 use Rattle.lookup.specs.Path.{counted}
 use Rattle.btree.specs.Entries.{itemTold, itemAt, turnTold, turnAt}
 use Rattle.btree.specs.Scan.{Run, more, end, refused, Tail, scanOf, nth, foundTold}
-use Rattle.btree.specs.Inner.{leafFrom, each, node, child, walk}
-use Rattle.btree.specs.Inner.{met, passTold, foundOf}
+use Rattle.btree.specs.Inner.{leafFrom, each, node, child, walk, met, passTold, foundOf}
 use Rattle.btree.specs.declared.entries.Search.{Search}
 use Rattle.btree.specs.declared.entries.Place.{Place}
 use Rattle.btree.specs.declared.entries.Found.{Found}

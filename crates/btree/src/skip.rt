@@ -13,8 +13,7 @@ use node::Node;
 ghost use mathlib.Core.Path.{_≡_};
 ghost use Prim.Native.Nat.{ℕ, _-_};
 ghost use Rattle.btree.specs.Scan.{Run, Tail, scanOf, nth, scannedTold};
-ghost use Rattle.btree.specs.Inner.{leafFrom, walk, child};
-ghost use Rattle.btree.specs.Inner.{met, passTold, foundOf};
+ghost use Rattle.btree.specs.Inner.{leafFrom, walk, child, met, passTold, foundOf};
 
 // Left: the part is passed, with as many still to skip.
 pub enum Pass {

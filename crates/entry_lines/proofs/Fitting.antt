@@ -14,10 +14,9 @@ use Rattle.error.specs.declared.Refusal.{Refusal}
 use Rattle.error.specs.declared.Refusal.the-variants.{BufferTooShort}
 use Rattle.error.proofs.Laws.{at-most, above, le-cases}
 use Rattle.text.specs.Output.{Output, at, refused, outputOf, puts}
-use Rattle.text.proofs.Whole.{whole}
+use Rattle.text.proofs.Whole.{whole, fits, full, written-next}
 use Rattle.text.specs.declared.Position.{Position}
 use Rattle.text.specs.declared.Position.the-variants.{At, No}
-use Rattle.text.proofs.Whole.{fits, full, written-next}
 use Rattle.text.proofs.Writing.{puts-append}
 use Rattle.obj.specs.declared.reader.Reader.{Reader}
 use Rattle.btree.specs.Scan.{scanOf}

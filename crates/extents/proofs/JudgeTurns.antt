@@ -18,13 +18,12 @@ use Rattle.records.specs.Extent.{extentAt}
 use Rattle.records.specs.declared.extent.Extent.{Extent}
 use Rattle.lists.specs.Lists.{listOf}
 use Rattle.lists.proofs.Reading.{reading, list-start, list-end, list-next}
-use Rattle.extents.specs.Inner.{looked, extentsIn}
+use Rattle.extents.specs.Inner.{looked, extentsIn, judgeOf, OneMore, closing, judgedTold, judgedOf}
 use Rattle.extents.specs.declared.walk.Seen.{Seen}
 use Rattle.extents.specs.declared.walk.Seen.the-variants as seen
 use Rattle.extents.specs.Verdict.{Verdict, fine, _>>_}
 use Rattle.extents.specs.Ruling.{ruled}
 use Rattle.extents.specs.Extents.{diskOf, start, inOrder, seek, since}
-use Rattle.extents.specs.Inner.{judgeOf, OneMore, closing, judgedTold, judgedOf}
 use Rattle.extents.specs.declared.verdict.Ruling.{Ruling}
 use Rattle.extents.specs.declared.verdict.Ruling.the-variants.{Fine, No}
 use Rattle.extents.specs.declared.deciding.Judging.{Judging}

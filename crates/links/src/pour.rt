@@ -22,9 +22,7 @@ ghost use mathlib.Core.Path.{_≡_};
 ghost use mathlib.Core.List.{List, _++_};
 ghost use Prim.Native.Nat.{ℕ};
 ghost use Rattle.extents.specs.Extents.{diskOf};
-ghost use Rattle.streams.specs.Inner.{taken};
-ghost use Rattle.streams.specs.Inner.{stepBytes};
-ghost use Rattle.streams.specs.Inner.{streamBytes};
+ghost use Rattle.streams.specs.Inner.{taken, stepBytes, streamBytes};
 ghost use Rattle.links.specs.Inner.{fedAs};
 
 // The first n bytes of an extent.
