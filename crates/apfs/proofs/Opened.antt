@@ -1,24 +1,22 @@
 -- What `apfs_open` gives: proof of what specs/Opened.antt says.
-use Prim.Native.Nat.{ℕ, _/_, _%_, _^_, _≤_, _<_}
-use mathlib.Core.Path.{_≡_, refl, ap, _∙_}
+use Prim.Native.Nat.{ℕ, _≤_, _<_}
+use mathlib.Core.Path.{_≡_, refl}
 use mathlib.Core.Logic.{_⊎_, inl, inr, ⊎-elim}
 use mathlib.Core.List.{List, [], _++_}
-use lib.IntN.{ℤ, pos}
+use lib.IntN.{pos}
 use lib.ListN.{length, drop}
-use Rattle.error.specs.Answer.{Answer, got, no, _>>=_, numberOf}
-use Rattle.error.specs.declared.Refusal.{Refusal}
-use Rattle.error.specs.declared.Refusal.the-variants.{Corrupt, Unsupported, BufferTooShort}
+use Rattle.error.specs.Answer.{Answer, got, no, _>>=_}
+use Rattle.error.specs.declared.Refusal.the-variants.{Unsupported}
 use Rattle.error.proofs.Laws.{le-cases, eq-cases}
 use Rattle.lookup.specs.Counted.{Counted, after, from}
 use Rattle.lookup.specs.declared.map.Map.{Map}
 use Rattle.omap.specs.Load.{mapAt}
-use Rattle.nx.specs.Open.{openAt}
 use Rattle.nx.specs.declared.container.Container.{Container}
-use Rattle.nx.specs.LatestCheckpoint.{blockZero, BlockZeroRead, superblockOf, Candidate, Latest, openedAs, Opens, at-latest, no-candidate}
+use Rattle.nx.specs.LatestCheckpoint.{blockZero, Latest, openedAs, Opens, at-latest, no-candidate}
 use Rattle.nx.proofs.LatestCheckpoint.{latest-checkpoint}
-use Rattle.calls.specs.Filled.{Filled, filled, filledBy}
-use Rattle.container_line.specs.Container.{numberWords, containerHead, containerText, openText}
-use Rattle.apfs.specs.Call.{minus, number, resultOf, bufferOf}
+use Rattle.calls.specs.Filled.{Filled, filled}
+use Rattle.container_line.specs.Container.{containerHead, containerText, openText}
+use Rattle.apfs.specs.Call.{number, resultOf, bufferOf}
 use Rattle.apfs.specs.Opened as said
 use Rattle.apfs.specs.Opened.{superblock, objectMap, line, Refused, Gives, ApfsOpened}
 

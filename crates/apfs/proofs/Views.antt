@@ -1,6 +1,6 @@
 -- What a call on a volume answers goes by the volume's view alone.
 use Prim.Native.Nat.{ℕ, zero, suc}
-use mathlib.Core.Path.{_≡_, refl, sym, ap, _∙_}
+use mathlib.Core.Path.{_≡_, refl, ap, _∙_}
 use mathlib.Core.Bool.{Bool, true, false}
 use mathlib.Core.List.{List, [], _∷_, map}
 use mathlib.Core.Option.{Option, none, some}
@@ -20,7 +20,7 @@ use Rattle.files.specs.File.{readFile}
 use Rattle.links.specs.Named.{hasName, named, attributeNamed}
 use Rattle.links.specs.Link.{contentsOf, textOf, targetOf, targetIn, symlinkName, linkOf}
 use Rattle.paths.specs.Lookup.{lookupPath}
-use Rattle.lines.specs.Shown.{InodeShown, EntryShown, AttributeShown, inodeShown, entryShown, attributeShown}
+use Rattle.lines.specs.Shown.{EntryShown, AttributeShown, inodeShown, entryShown, attributeShown}
 use Rattle.lines.specs.Lines.{nodeLine, entryLine, attributeLine}
 use Rattle.demand.specs.View.{View}
 use Rattle.demand.specs.Listing.{holding}

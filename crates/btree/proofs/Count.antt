@@ -17,7 +17,7 @@ use Rattle.lookup.specs.Count.{namePath}
 use Rattle.lookup.proofs.Count.{resolves-by}
 use Rattle.lookup.proofs.Theorems.{read-block}
 use Rattle.btree.specs.Entries.{bytesOf, Act, stop, skip, into, byOrder, orderAt, childNode, enterAt, followAt, turnAt}
-use Rattle.btree.specs.Scan.{Part, through, gives, passed, ended, failed, treePart, end, Tail, countedPart, nth, scanOf}
+use Rattle.btree.specs.Scan.{Part, through, gives, passed, ended, failed, treePart, end, countedPart, nth, scanOf}
 use Rattle.btree.specs.Count.{pathTo, EntryPath, CountsPath}
 use Rattle.btree.specs.declared.entries.Search.{Search}
 use Rattle.btree.specs.declared.entries.Order.{Order}

@@ -4,7 +4,7 @@ use mathlib.Core.Path.{_≡_, refl, sym, ap, _∙_}
 use mathlib.Core.List.{List, [], _∷_}
 use native.Mathlib.Nat.{sub-zero}
 use native.Mathlib.Decide.{ℕ-discrete}
-use Rattle.error.specs.Answer.{Answer, got, no, ifEq}
+use Rattle.error.specs.Answer.{Answer, got, no}
 use Rattle.error.specs.declared.Refusal.the-variants.{Corrupt}
 use Rattle.error.proofs.Laws.{at-most, above, same, other}
 use Rattle.arith.specs.Checked.{ticked}
@@ -12,7 +12,7 @@ use Rattle.node.specs.Node.{leafBit}
 use Rattle.node.specs.declared.layout.Node.{Node}
 use Rattle.lookup.specs.Path.{Through, countAlong, counted}
 use Rattle.btree.specs.Entries.{Leaf, passOver, endScan, recordAt, itemAt, Act, stop, skip, into, turnAt}
-use Rattle.btree.specs.Scan.{Part, through, gives, passed, ended, failed, _then_, along, itemPart, leafPart, actPart, turnPart, indexPart, nodePart, childPart, treePart, Run, more, end, refused, Tail, countedPart, scanOf}
+use Rattle.btree.specs.Scan.{Part, through, gives, passed, ended, failed, _then_, along, itemPart, leafPart, actPart, turnPart, indexPart, nodePart, childPart, treePart, more, end, refused, Tail, countedPart, scanOf}
 use Rattle.btree.specs.Inner.{leafThen, leafFrom, acting, act, each, node, child, walk}
 use Rattle.btree.specs.declared.entries.Search.{Search}
 

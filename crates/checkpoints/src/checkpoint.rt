@@ -11,9 +11,9 @@ use geometry::Geometry;
 use geometry::area_at;
 use obj::Reader;
 ghost use mathlib.Core.Path.{_≡_};
-ghost use Prim.Native.Nat.{_+_, _*_, _^_, _≤_, _<_};
+ghost use Prim.Native.Nat.{_+_, _*_, _^_, _<_};
 ghost use Rattle.checkpoints.specs.Superblock.{foundTold, superTold};
-ghost use Rattle.checkpoints.specs.Checkpoint.{acceptedAt, prefer, blockPlace, latestIn, checkpointOf};
+ghost use Rattle.checkpoints.specs.Checkpoint.{acceptedAt, prefer, latestIn, checkpointOf};
 ghost use Rattle.checkpoints.specs.Inner.{Older};
 
 // Whether the block's transaction number is below that of a checkpoint that was taken already.

@@ -1,7 +1,7 @@
 -- The line of a container, `(container BLOCK_SIZE BLOCK_COUNT XID OID ..)`, in the listing's notation: document 01, "The listing (added)".
 use Prim.Native.Nat.{ℕ}
 use mathlib.Core.List.{List, [], _∷_}
-use Rattle.error.specs.Answer.{Answer, got, no, _>>=_}
+use Rattle.error.specs.Answer.{Answer, got, _>>=_}
 use Rattle.text.specs.Words.{ascii, digits, words}
 use Rattle.nx.specs.Open.{openAt}
 use Rattle.nx.specs.Slots.{volumesOf}

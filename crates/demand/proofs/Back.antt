@@ -1,18 +1,17 @@
 -- The other way: a tree that a volume shows, not too deep and with room for its text, is listed.
 use Prim.Native.Nat.{ℕ, zero, suc, max, _≤_}
 use mathlib.Core.Path.{_≡_, refl, sym, ap, subst, _∙_}
-use mathlib.Core.Bool.{Bool, true, false}
-use mathlib.Core.List.{List, [], _∷_, _++_, map, head-eq-of-cons-eq, tail-eq-of-cons-eq}
+use mathlib.Core.List.{List, [], _∷_, map, head-eq-of-cons-eq, tail-eq-of-cons-eq}
 use native.Mathlib.Omega.{arith}
 use lib.ListN.{length}
-use Rattle.error.specs.Answer.{Answer, got, no, pick}
+use Rattle.error.specs.Answer.{Answer, got}
 use Rattle.error.proofs.Laws.{at-most}
 use Rattle.lines.specs.Shown.{InodeShown, EntryShown, AttributeShown, Contents, packed, plain}
-use Rattle.demand.specs.Trace.{End, done, stop, Trace, says, goOn, _then_, reading, textOr, within}
+use Rattle.demand.specs.Trace.{done, Trace, _then_, reading, within}
 use Rattle.demand.proofs.Tree.{Tree, node, Entries, none, entry, ofVolume}
 use Rattle.demand.specs.View.{View}
-use Rattle.demand.specs.Listing.{attributeLines, isPacked, dataLine, entryForms, nodeForm, trace, listing, levels}
-use Rattle.demand.proofs.Shows.{heads, heard, ShowsContents, ShowsNode, Shows, ShowsAll, Listed, trace-done}
+use Rattle.demand.specs.Listing.{attributeLines, dataLine, entryForms, nodeForm, trace, listing, levels}
+use Rattle.demand.proofs.Shows.{heads, heard, ShowsContents, Shows, ShowsAll, trace-done}
 use Rattle.demand.proofs.Walks.{heard-same}
 
 -- ---- a volume shows one tree

@@ -1,17 +1,17 @@
 -- The demand where file reads are compared only at the offsets and lengths that a caller can give, up to `most`. Of the volumes it takes `Reads`, and
 -- that no file is longer than `most`.
-use Prim.Native.Nat.{ℕ, zero, _≤_}
+use Prim.Native.Nat.{ℕ, _≤_}
 use mathlib.Core.Path.{_≡_, refl, sym, _∙_}
 use mathlib.Core.Logic.{_↔_}
-use mathlib.Core.List.{List, [], _∷_}
+use mathlib.Core.List.{List}
 use native.Mathlib.Omega.{arith}
-use lib.ListN.{length, take, drop}
+use lib.ListN.{length}
 use lib.Seq.{take-all}
-use Rattle.error.specs.Answer.{Answer, got, no}
+use Rattle.error.specs.Answer.{got}
 use Rattle.lines.specs.Shown.{InodeShown, EntryShown, AttributeShown, Contents, packed, plain}
 use Rattle.demand.specs.View.{View}
-use Rattle.demand.specs.Listing.{isPacked, listing}
-use Rattle.demand.specs.Demand.{Met, here, nowhere, chain, Agree, past, on, Same, AgreeTo, past-to, on-to, SameTo}
+use Rattle.demand.specs.Listing.{listing}
+use Rattle.demand.specs.Demand.{Met, Agree, past, on, AgreeTo, past-to, on-to, SameTo}
 use Rattle.demand.proofs.Shows.{ShowsNode, listing-done}
 use Rattle.demand.proofs.Walks.{Reads, readOf, read-shown, Ends, ends-past, ends-on, ends}
 use Rattle.demand.proofs.Views.{listings-same}

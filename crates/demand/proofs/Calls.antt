@@ -1,9 +1,8 @@
 -- What a call answers, after however many nodes, is what the view has: for a caller that holds an inode, a list or an attribute which it read.
 use Prim.Native.Nat.{ℕ}
-use mathlib.Core.Path.{_≡_, sym, ap, _∙_}
+use mathlib.Core.Path.{_≡_, ap}
 use mathlib.Core.List.{List, map}
 use Rattle.error.specs.Answer.{Answer, got, _>>=_}
-use Rattle.lookup.specs.Counted.{Counted}
 use Rattle.volume.specs.declared.Volume.{Volume}
 use Rattle.records.specs.declared.attribute.Attribute.{Attribute}
 use Rattle.records.specs.declared.directory.Entry.{Entry}

@@ -2,14 +2,13 @@
 use Prim.Native.Nat.{ℕ, zero, suc, _+_, _^_, _≤_, _<_}
 use mathlib.Core.Path.{_≡_, refl, sym, ap, subst, _∙_}
 use mathlib.Core.Logic.{_⊎_, inl, inr}
-use mathlib.Core.List.{List, []}
+use mathlib.Core.List.{List}
 use mathlib.Core.Option.{Option, none, some}
 use native.Mathlib.Omega.{arith}
-use mir.Syntax.{w8, w64}
-use mir.Val.{Fits}
+use mir.Syntax.{w64}
 use lib.ListN.{length, getD, take, drop, length-take, List·getD-eq-default}
 use lib.Seq.{getD-take, getD-drop}
-use Rattle.error.specs.Answer.{Answer, got, no, _>>=_, ifLe, ifEq}
+use Rattle.error.specs.Answer.{Answer, got, no}
 use Rattle.error.specs.declared.Refusal.the-variants.{Corrupt}
 use Rattle.error.proofs.Laws.{le-cases, eq-cases, bound}
 use Rattle.bytes.specs.Number.{numberAt}
@@ -18,13 +17,12 @@ use Rattle.bytes.specs.declared.Number.the-variants as number
 use Rattle.bytes.specs.declared.Span.{Span}
 use Rattle.bytes.proofs.Laws.{read-fits}
 use Rattle.obj.specs.Block.{blockOf}
-use Rattle.obj.specs.declared.reader.Reader.{Reader}
-use Rattle.lookup.specs.Counted.{Counted, after, onto}
+use Rattle.lookup.specs.Counted.{after, onto}
 use Rattle.btree.specs.Entries.{valueOf}
 use Rattle.btree.specs.Scan.{nth, scanOf}
 use Rattle.btree.specs.declared.entries.Place.{Place}
 use Rattle.volume.specs.declared.Volume.{Volume}
-use Rattle.inode_record.specs.Fields.{streamField, fieldIn, laterStream, mergedOf, fieldAt, nextOff, fieldsFrom, fieldsIn}
+use Rattle.inode_record.specs.Fields.{streamField, fieldIn, laterStream, mergedOf, fieldAt, fieldsFrom, fieldsIn}
 use Rattle.inode_record.specs.Inode.{idsIn, timesIn, ownerIn, inodeIn, inodeAt}
 use Rattle.inode_record.specs.declared.fields.Fields.{Fields}
 use Rattle.inode_record.specs.declared.fields.StreamField.{StreamField}

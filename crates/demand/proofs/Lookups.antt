@@ -22,8 +22,7 @@ use Rattle.paths.specs.Names.{ruleOf}
 use Rattle.paths.specs.Find.{findEntry}
 use Rattle.paths.specs.Lookup.{nameRead, lookupPath}
 use Rattle.paths.proofs.Answers.{find-map, walkAnswers, lookup-answers}
-use Rattle.lines.specs.Shown.{InodeShown, EntryShown, inodeShown, entryShown}
-use Rattle.demand.specs.View.{View}
+use Rattle.lines.specs.Shown.{InodeShown, inodeShown, entryShown}
 use Rattle.demand.specs.Lookup.{entryLabel, descend, lookup}
 use Rattle.demand.specs.Demand.{inodeAnswer, entriesAnswer, viewOf, viewAt, lookupOf}
 use Rattle.demand.proofs.Counts.{inode-even, entries-even}

@@ -1,28 +1,27 @@
 -- The law of file reads of an opened volume, and how long a file is.
-use Prim.Native.Nat.{ℕ, _-_, _^_, _/_, _%_, _≤_, _<_}
-use mathlib.Core.Path.{_≡_, refl, sym, ap, subst, _∙_}
-use mathlib.Core.Bool.{Bool, true, false}
-use mathlib.Core.List.{List, []}
+use Prim.Native.Nat.{ℕ, _-_, _^_, _/_, _%_, _≤_}
+use mathlib.Core.Path.{_≡_, sym, ap, _∙_}
+use mathlib.Core.Bool.{true}
+use mathlib.Core.List.{List}
 use native.Mathlib.Omega.{arith}
 use borrow.Author.Tests.{eqb-true}
 use lib.ListN.{length, take, drop}
-use Rattle.error.specs.Answer.{Answer, got, no, _>>=_}
+use Rattle.error.specs.Answer.{Answer, got, no}
 use Rattle.error.specs.declared.Refusal.the-variants.{Unsupported}
 use Rattle.error.proofs.Laws.{eq-cases, bound}
-use Rattle.lookup.specs.Counted.{Counted, after, from, onto}
+use Rattle.lookup.specs.Counted.{Counted, after, from}
 use Rattle.volume.specs.declared.Volume.{Volume}
 use Rattle.records.specs.declared.extent.Extent.{Extent}
 use Rattle.inode_record.specs.declared.inode.Inode.{Inode}
 use Rattle.lists.specs.Lists.{inodeOf, extentsOf}
 use Rattle.extents.specs.Extents.{diskOf, apart}
-use Rattle.files.specs.Read.{readAt, readAll}
-use Rattle.files.specs.File.{sizeOf, readFile, readPlain, readWhole}
+use Rattle.files.specs.Read.{readAll}
+use Rattle.files.specs.File.{sizeOf, readPlain, readWhole}
 use Rattle.inode_record.specs.Inode.{compressed}
 use Rattle.extents.proofs.Verdicts.{went}
 use Rattle.files.proofs.ReadLaws.{read-length}
 use Rattle.files.proofs.FileParts.{compressed-read, file-part}
 use Rattle.lines.specs.Shown.{InodeShown, inodeShown}
-use Rattle.demand.specs.View.{View}
 use Rattle.demand.specs.Listing.{isPacked}
 use Rattle.demand.specs.Demand.{Bytes, inodeAnswer, contentsAnswer, readAnswer, viewOf}
 use Rattle.demand.proofs.Inodes.{got-same, inode-placed, inode-small}

@@ -1,18 +1,17 @@
 -- A volume shows a tree where what it answers is what stands in the tree. A listing that was not refused is the text of a tree that
 -- its volume shows.
-use Prim.Native.Nat.{ℕ, zero, suc, _≤_, _<_}
+use Prim.Native.Nat.{ℕ, zero, suc}
 use mathlib.Core.Path.{_≡_, refl, sym, ap, subst, _∙_}
 use mathlib.Core.Bool.{Bool, true, false}
 use mathlib.Core.List.{List, [], _∷_, _++_, map, append-assoc, append-nil}
 use native.Mathlib.Omega.{arith}
-use lib.ListN.{length}
 use Rattle.error.specs.Answer.{Answer, got, no, pick}
 use Rattle.error.specs.declared.Refusal.{Refusal}
-use Rattle.error.specs.declared.Refusal.the-variants.{BufferTooShort, TooDeep}
+use Rattle.error.specs.declared.Refusal.the-variants.{TooDeep}
 use Rattle.error.proofs.Laws.{le-cases}
 use Rattle.lines.specs.Shown.{InodeShown, EntryShown, AttributeShown, Contents, packed, plain}
-use Rattle.lines.specs.Lines.{nodeLine, attributeLine, contentsLine, entryLine, close}
-use Rattle.demand.specs.Trace.{End, done, stop, Trace, says, refuses, goOn, _then_, reading, textOr, within}
+use Rattle.lines.specs.Lines.{contentsLine, close}
+use Rattle.demand.specs.Trace.{End, done, stop, Trace, says, goOn, _then_, reading, textOr, within}
 use Rattle.demand.proofs.Tree.{Tree, node, Entries, none, entry, ofAttributes, ofTree, ofEntries, ofVolume}
 use Rattle.demand.specs.View.{View}
 use Rattle.demand.specs.Listing.{holding, attributeLines, isPacked, dataLine, entryForms, nodeForm, trace, listing, levels}

@@ -2,22 +2,20 @@
 -- lookup gets the same answer. Of the volumes it takes `Reads`, and for the lookups nothing.
 use Prim.Native.Nat.{ℕ}
 use mathlib.Core.Path.{_≡_, refl, sym, ap, subst, _∙_}
-use mathlib.Core.Logic.{_↔_, _⊎_, inl, inr}
-use mathlib.Core.Bool.{Bool, true, false}
-use mathlib.Core.List.{List, [], _∷_, _++_, map}
-use native.Mathlib.Omega.{arith}
+use mathlib.Core.Logic.{_↔_}
+use mathlib.Core.List.{List, [], _∷_, _++_}
 use Rattle.error.specs.Answer.{Answer, got, no, pick}
 use Rattle.error.specs.declared.Refusal.the-variants.{PathNotUtf8}
 use Rattle.utf8.specs.Text.{strict}
 use Rattle.paths.specs.Parts.{partsOf}
-use Rattle.lines.specs.Shown.{InodeShown, EntryShown, AttributeShown, Contents}
-use Rattle.demand.proofs.Tree.{Tree, ofVolume}
+use Rattle.lines.specs.Shown.{InodeShown}
+use Rattle.demand.proofs.Tree.{ofVolume}
 use Rattle.demand.specs.View.{View}
 use Rattle.demand.specs.Listing.{listing}
-use Rattle.demand.specs.Lookup.{descend, lookup}
-use Rattle.demand.specs.Demand.{Met, here, nowhere, refused, met, onward, follow, chain, Agree, past, on, Same}
+use Rattle.demand.specs.Lookup.{lookup}
+use Rattle.demand.specs.Demand.{Met, met, onward, follow, chain, Agree, past, on, Same}
 use Rattle.demand.proofs.TreeLaws.{SameText, volume-same}
-use Rattle.demand.proofs.Shows.{heard, ShowsContents, Shows, Listed, listing-done}
+use Rattle.demand.proofs.Shows.{Shows, Listed, listing-done}
 use Rattle.demand.proofs.Walks.{Reads, Ends, ends-past, ends-on, ends, read-shown, tree-same, descend-same}
 
 module _ (v w : View) where

@@ -1,6 +1,6 @@
 -- Two volumes that show one tree answer alike; two that answer alike show one tree.
 use Prim.Native.Nat.{ℕ, zero, suc, _+_}
-use mathlib.Core.Path.{_≡_, refl, sym, ap, subst, _∙_}
+use mathlib.Core.Path.{_≡_, refl, sym, ap, _∙_}
 use mathlib.Core.Bool.{Bool, true, false}
 use mathlib.Core.List.{List, [], _∷_, map, head-eq-of-cons-eq, tail-eq-of-cons-eq}
 use native.Mathlib.Omega.{arith}
@@ -18,8 +18,8 @@ use Rattle.demand.proofs.Tree.{Tree, node, Entries, none, entry}
 use Rattle.demand.specs.View.{View}
 use Rattle.demand.specs.Listing.{holding, isPacked}
 use Rattle.demand.specs.Lookup.{entryLabel, descend}
-use Rattle.demand.specs.Demand.{Met, here, nowhere, refused, met, place, placeIn, onward, follow, Agree, past, on}
-use Rattle.demand.proofs.Shows.{heads, heard, ShowsContents, ShowsNode, Shows, ShowsAll}
+use Rattle.demand.specs.Demand.{Met, here, nowhere, met, place, onward, follow, Agree, past, on}
+use Rattle.demand.proofs.Shows.{heads, heard, ShowsNode, Shows, ShowsAll}
 
 -- what the demand rests on: the law of file reads, of each inode that there is, at every offset and length
 pub record Reads (v : View) : Type 0 where

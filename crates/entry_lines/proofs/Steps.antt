@@ -11,7 +11,7 @@ use lib.Seq.{drop-nil}
 use Rattle.error.specs.Answer.{Answer, got, no, ifLe}
 use Rattle.error.specs.declared.Refusal.{Refusal}
 use Rattle.error.specs.declared.Refusal.the-variants.{BufferTooShort}
-use Rattle.error.proofs.Laws.{at-most, above, le-cases}
+use Rattle.error.proofs.Laws.{at-most, above}
 use Rattle.lookup.specs.Counted.{Counted, after, onto}
 use Rattle.text.specs.Output.{at, outputOf, puts}
 use Rattle.text.specs.declared.Position.{Position}

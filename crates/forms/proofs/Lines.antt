@@ -10,7 +10,7 @@ use Rattle.bytes.specs.declared.Span.{Span}
 use Rattle.obj.specs.declared.reader.Reader.{Reader}
 use Rattle.lookup.specs.Counted.{Counted, after, onto}
 use Rattle.utf8.specs.Text.{lossy}
-use Rattle.text.specs.Output.{Output, refused, outputOf, puts}
+use Rattle.text.specs.Output.{Output, puts}
 use Rattle.text.specs.Words.{ascii, pairs}
 use Rattle.text.proofs.Digits.{pairs-append}
 use Rattle.text.proofs.Writing.{puts-append}
@@ -31,13 +31,13 @@ use Rattle.streams.specs.declared.settle.Settled.{Settled}
 use Rattle.streams.proofs.Contents.{stream-settled}
 use Rattle.contents.specs.Whole.{settledWhole}
 use Rattle.contents.proofs.Plain.{plain-settled}
-use Rattle.links.specs.Link.{contentsBy, contentsOf}
+use Rattle.links.specs.Link.{contentsBy}
 use Rattle.lines.specs.Shown.{attributeShown, formShown, plain}
 use Rattle.lines.specs.Shown as shown
 use Rattle.lines.specs.Lines.{attributeLine, contentsLine}
 use Rattle.lines.specs.Inner.{attributeHead}
 use Rattle.lines.proofs.After.{attribute-texts}
-use Rattle.demand.specs.Trace.{Trace, stop, says, _then_, reading}
+use Rattle.demand.specs.Trace.{Trace, stop, says, reading}
 use Rattle.forms.specs.Inner.{ending, run, attributeTrace, streamTrace, plainTrace, dataTrace}
 use Rattle.forms.proofs.Running.{run-says, reading-got, reading-no}
 

@@ -1,7 +1,7 @@
 -- How a trace runs: one after the other, and what is read for it.
 use Prim.Native.Nat.{ℕ}
 use mathlib.Core.Path.{_≡_, refl, sym, ap, _∙_}
-use mathlib.Core.List.{List, _++_}
+use mathlib.Core.List.{List}
 use borrow.Author.Needs.{needs}
 use Rattle.error.specs.Answer.{Answer, got, no}
 use Rattle.error.specs.declared.Refusal.{Refusal}
@@ -9,7 +9,7 @@ use Rattle.text.specs.Output.{Output, at, refused, outputOf, puts}
 use Rattle.text.specs.declared.Position.{Position}
 use Rattle.text.specs.declared.Position.the-variants.{At, No}
 use Rattle.text.proofs.Writing.{puts-append, puts-refused}
-use Rattle.demand.specs.Trace.{End, done, stop, Trace, says, refuses, _then_, goOn, reading}
+use Rattle.demand.specs.Trace.{End, done, stop, Trace, says, _then_, goOn, reading}
 use Rattle.forms.specs.Inner.{ending, run}
 
 module _ (room : ℕ) where

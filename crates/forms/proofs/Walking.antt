@@ -7,7 +7,7 @@ use native.Mathlib.Omega.{arith}
 use borrow.Author.Needs.{needs}
 use Rattle.error.specs.Answer.{Answer, got, no}
 use Rattle.error.specs.declared.Refusal.{Refusal}
-use Rattle.lookup.specs.Counted.{Counted, after, from, onto}
+use Rattle.lookup.specs.Counted.{after, from, onto}
 use Rattle.text.specs.Output.{Output, refused, outputOf, puts}
 use Rattle.text.specs.declared.Position.{Position}
 use Rattle.text.specs.declared.Position.the-variants.{No}
@@ -21,16 +21,15 @@ use Rattle.cursor.specs.Left.{left, runOf}
 use Rattle.cursor.specs.declared.Step.{Step}
 use Rattle.cursor.proofs.Through.{run-at, run-end, run-no, size-less}
 use Rattle.volume.specs.declared.Volume.{Volume}
-use Rattle.records.specs.Directory.{entryTold, entryAt}
+use Rattle.records.specs.Directory.{entryTold}
 use Rattle.records.specs.Attribute.{attributeTold, attributeAt}
 use Rattle.records.specs.declared.directory.EntryRead.{EntryRead}
 use Rattle.records.specs.declared.directory.Entry.{Entry}
 use Rattle.records.specs.declared.attribute.AttributeRead.{AttributeRead}
 use Rattle.records.specs.declared.attribute.Attribute.{Attribute}
 use Rattle.lists.specs.Lists.{searchOf, listOf}
-use Rattle.demand.specs.Trace.{Trace, says, _then_}
-use Rattle.forms.specs.Inner.{run, readThen, readable, read?, seenAt, entrySeen, attributeSeen, attributeTrace, attributeTraces}
-use Rattle.forms.specs.declared.seen.SeenEntry.{SeenEntry}
+use Rattle.demand.specs.Trace.{Trace}
+use Rattle.forms.specs.Inner.{run, readThen, readable, read?, seenAt, attributeSeen, attributeTrace, attributeTraces}
 use Rattle.forms.specs.declared.seen.SeenAttribute.{SeenAttribute}
 use Rattle.forms.proofs.Running.{run-then, stays-no}
 

@@ -9,7 +9,6 @@ use bytes::u64_at;
 use error::Refusal;
 use obj::Reader;
 ghost use mathlib.Core.Path.{_≡_};
-ghost use lib.ListN.{length};
 ghost use Rattle.bytes.specs.Number.{told};
 ghost use Rattle.geometry.specs.BlockZero.{hasMagic, sizeTold, sizeOk, sizeIn, measuredTold, ringOf, geometryIn, sizeAt, geometryAt, areaAt};
 

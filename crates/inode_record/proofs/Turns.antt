@@ -1,6 +1,6 @@
 -- The turns of the loop over an inode's extended fields.
-use Prim.Native.Nat.{ℕ, zero, suc, _+_, _*_, _-_, _/_, _%_, _≤_, _<_}
-use mathlib.Core.Path.{_≡_, refl, sym, ap, _∙_}
+use Prim.Native.Nat.{ℕ, suc, _+_, _*_, _-_, _≤_, _<_}
+use mathlib.Core.Path.{_≡_}
 use mathlib.Core.List.{List}
 use native.Mathlib.Omega.{arith}
 use native.Mathlib.Nat.{sub-zero}
@@ -8,7 +8,7 @@ use mir.Syntax.{w8, w16, w32}
 use lib.ListN.{getD}
 use Rattle.bytes.proofs.Laws.{read-fits}
 use mir.Val.{Fits}
-use Rattle.error.specs.Answer.{Answer, got, no, _>>=_}
+use Rattle.error.specs.Answer.{got, no}
 use Rattle.error.specs.declared.Refusal.{Refusal}
 use Rattle.bytes.specs.Number.{numberAt, told}
 use Rattle.bytes.specs.declared.Number.{Number}

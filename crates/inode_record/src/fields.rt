@@ -9,7 +9,7 @@ use bytes::u32_at;
 use bytes::u64_at;
 use error::Refusal;
 ghost use mathlib.Core.Path.{_≡_};
-ghost use Prim.Native.Nat.{_≤_, _<_, _+_, _*_};
+ghost use Prim.Native.Nat.{_<_, _+_, _*_};
 ghost use Rattle.inode_record.specs.Fields.{fieldsTold, streamField, fieldIn, laterName, laterStream, mergedOf, fieldAt, nextOff, fieldsFrom, noFields, fieldsIn};
 
 pub struct Dstream {

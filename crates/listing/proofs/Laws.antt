@@ -1,18 +1,18 @@
 -- The turns of the two writers.
-use Prim.Native.Nat.{ℕ, zero, suc, _+_, _-_, _≤_, _<_}
-use mathlib.Core.Path.{_≡_, refl, sym, ap, _∙_}
+use Prim.Native.Nat.{ℕ, suc, _+_, _-_, _≤_, _<_}
+use mathlib.Core.Path.{_≡_, sym, ap, _∙_}
 use mathlib.Core.List.{List, [], _∷_, map}
 use native.Mathlib.Omega.{arith}
 use borrow.Author.Needs.{needs}
 use Rattle.error.specs.Answer.{Answer, got, no, _>>=_}
 use Rattle.error.specs.declared.Refusal.{Refusal}
 use Rattle.error.specs.declared.Refusal.the-variants.{TooDeep}
-use Rattle.lookup.specs.Counted.{Counted, after}
+use Rattle.lookup.specs.Counted.{Counted}
 use Rattle.text.specs.Output.{Output, refused, outputOf, puts}
 use Rattle.text.specs.Words.{ascii}
 use Rattle.text.specs.declared.Position.{Position}
 use Rattle.text.specs.declared.Position.the-variants.{No}
-use Rattle.btree.specs.Scan.{Run, scanOf}
+use Rattle.btree.specs.Scan.{scanOf}
 use Rattle.btree.specs.declared.entries.Search.{Search}
 use Rattle.btree.proofs.Places.{size}
 use Rattle.cursor.specs.Left.{left, runOf}
@@ -28,7 +28,7 @@ use Rattle.lists.specs.Told.{inodeFound}
 use Rattle.lists.specs.declared.inodes.InodeFound.{InodeFound}
 use Rattle.lines.specs.Shown.{entryShown, inodeShown}
 use Rattle.lines.specs.Lines.{entryLine, close}
-use Rattle.demand.specs.Trace.{stop, Trace, says, refuses, _then_, reading}
+use Rattle.demand.specs.Trace.{stop, Trace, says}
 use Rattle.demand.specs.Listing.{entryForms, nodeForm}
 use Rattle.demand.specs.Demand.{viewOf, inodeAnswer}
 use Rattle.forms.specs.Inner.{ending, run, readable, seenAt, entrySeen, headTrace}

@@ -1,16 +1,14 @@
 -- A node's form is its head, its entries' forms and its end, as the code writes them.
-use Prim.Native.Nat.{ℕ, zero, suc, _-_, _/_, _%_}
+use Prim.Native.Nat.{ℕ, suc, _-_}
 use mathlib.Core.Path.{_≡_, refl, sym, ap, _∙_}
 use mathlib.Core.Bool.{Bool, true, false}
 use mathlib.Core.List.{List, [], _∷_, map}
-use native.Mathlib.Omega.{arith}
 use borrow.Author.Tests.{eqb-false}
 use lib.Dec.{eqb}
 use Rattle.error.specs.Answer.{Answer, got, no, _>>=_, pick, ifEq}
 use Rattle.error.specs.declared.Refusal.{Refusal}
-use Rattle.error.specs.declared.Refusal.the-variants.{TooDeep}
-use Rattle.lookup.specs.Counted.{Counted, after}
-use Rattle.text.specs.Output.{Output, at, refused, puts}
+use Rattle.lookup.specs.Counted.{Counted}
+use Rattle.text.specs.Output.{Output, at, refused}
 use Rattle.btree.specs.Scan.{scanOf}
 use Rattle.volume.specs.declared.Volume.{Volume}
 use Rattle.records.specs.Directory.{entryAt}
@@ -20,19 +18,16 @@ use Rattle.inode_record.specs.declared.inode.Inode.{Inode}
 use Rattle.lists.specs.Lists.{searchOf, inodeOf, attributesOf, entriesOf}
 use Rattle.files.specs.File.{readWhole}
 use Rattle.inode_record.specs.Inode.{compressed}
-use Rattle.links.specs.Link.{contentsOf}
 use Rattle.contents.proofs.Plain.{plain-whole}
-use Rattle.lines.specs.Shown.{InodeShown, EntryShown, AttributeShown, inodeShown, entryShown, attributeShown, plain}
-use Rattle.lines.specs.Lines.{nodeLine, entryLine, contentsLine, close}
-use Rattle.demand.specs.Trace.{End, done, stop, Trace, says, refuses, _then_, reading}
-use Rattle.demand.specs.View.{View}
-use Rattle.demand.specs.Listing.{holding, attributeLines, isPacked, dataLine, entryForms, nodeForm}
+use Rattle.lines.specs.Shown.{inodeShown, entryShown, attributeShown, plain}
+use Rattle.lines.specs.Lines.{nodeLine, contentsLine, close}
+use Rattle.demand.specs.Trace.{stop, Trace, says, _then_, reading}
+use Rattle.demand.specs.Listing.{attributeLines, dataLine, entryForms, nodeForm}
 use Rattle.demand.specs.Demand.{viewOf, withContents, inodeAnswer, entriesAnswer, attributesAnswer, contentsAnswer}
 use Rattle.demand.proofs.Inodes.{inode-placed}
 use Rattle.forms.specs.Inner.{ending, run, readable, attributeTrace, attributeTraces, plainTrace, dataTrace, headTrace}
-use Rattle.forms.proofs.Running.{run-says, run-refused, run-then, reading-got, reading-no}
+use Rattle.forms.proofs.Running.{run-refused, run-then, reading-got, reading-no}
 use Rattle.forms.proofs.Walking.{listed}
-use Rattle.listing.specs.Inner.{entryForm}
 
 -- a refusal stays
 stays : (room : ℕ) (t : Trace) (w : Refusal) (o : Output) → run room t (ending (stop w) o) ≡ ending (stop w) o

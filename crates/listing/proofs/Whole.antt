@@ -27,7 +27,7 @@ use Rattle.paths.specs.declared.names.NameRule.{NameRule}
 use Rattle.extents.proofs.Verdicts.{le-or-gt}
 use Rattle.lines.specs.Lines.{volumeLine, close}
 use Rattle.calls.specs.Filled.{Filled, filledAt}
-use Rattle.demand.specs.Trace.{End, done, stop, Trace, says, _then_, textOr, within}
+use Rattle.demand.specs.Trace.{End, done, stop, Trace, says, within}
 use Rattle.demand.specs.Listing.{levels, nodeForm, trace, listing}
 use Rattle.demand.specs.Demand.{viewOf, viewAt, labelShown, listingOf}
 use Rattle.forms.specs.Inner.{ending, run}

@@ -7,7 +7,7 @@ use native.Mathlib.Omega.{arith}
 use Rattle.error.specs.Answer.{Answer, got, no, _>>=_}
 use Rattle.error.specs.declared.Refusal.{Refusal}
 use Rattle.error.specs.declared.Refusal.the-variants.{NotFound}
-use Rattle.lookup.specs.Counted.{Counted, after, onto}
+use Rattle.lookup.specs.Counted.{Counted, after}
 use Rattle.btree.specs.Scan as scan
 use Rattle.btree.specs.declared.entries.Search.{Search}
 use Rattle.btree.specs.declared.entries.Place.{Place}
@@ -23,7 +23,7 @@ use Rattle.cursor.proofs.Through as through
 use Rattle.lists.specs.Lists.{searchOf, listOf, elementAt, placed, inodeOf}
 use Rattle.lists.specs.Inner.{keep, kept}
 use Rattle.records.proofs.Laws as record-laws
-use Rattle.lists.proofs.Reading.{reading, list-start, list-end, list-refused, list-no, list-next}
+use Rattle.lists.proofs.Reading.{reading, list-start, list-end, list-next}
 
 abbrev seek : {A : Type 0} → Option A → ℕ → List A → Option A
 seek none left xs = elementAt left xs

@@ -6,7 +6,7 @@ use mathlib.Core.Option.{Option}
 use native.Mathlib.Numerals.{sub-one}
 use native.Mathlib.Decide.{ℕ-discrete}
 use native.Mathlib.Omega.{arith}
-use Rattle.error.specs.Answer.{Answer, got, no, ifEq}
+use Rattle.error.specs.Answer.{Answer, got, no}
 use Rattle.error.proofs.Laws.{same, other}
 use Rattle.obj.specs.declared.reader.Reader.{Reader}
 use Rattle.node.specs.declared.layout.Node.{Node}
@@ -14,7 +14,7 @@ use Rattle.node.specs.declared.layout.Info.{Info}
 use Rattle.lookup.specs.declared.descent.Target.{Target}
 use Rattle.lookup.specs.declared.descent.Hit.{Hit}
 use Rattle.lookup.specs.Path.{Through, atOnce, on, andThen, counted}
-use Rattle.lookup.specs.Lookup.{Step, nothing, found, into, stepAt, walked, lookNode, lookChild, look, pathOf, lookupLe}
+use Rattle.lookup.specs.Lookup.{Step, nothing, found, into, stepAt, walked, lookNode, lookChild, look, lookupLe}
 use Rattle.lookup.specs.Count.{LeadsTo, Goes, CountsPath, ResolvesBy}
 use Rattle.lookup.specs.Map.{mappingOf, targetFor, lookIn, blockFor, blockIn, resolve}
 use Rattle.lookup.specs.declared.map.Resolve.{Resolve}

@@ -2,7 +2,7 @@
 -- Nothing is counted here: a path is a list of blocks, and a count is taken of it.
 use Prim.Native.Nat.{ℕ}
 use mathlib.Core.List.{List, [], _∷_, _++_}
-use Rattle.error.specs.Answer.{Answer, got, no, _>>=_}
+use Rattle.error.specs.Answer.{Answer, got, no}
 use Rattle.arith.specs.Checked.{ticked}
 use Rattle.lookup.specs.Counted.{Counted, after}
 

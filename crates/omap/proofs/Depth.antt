@@ -1,6 +1,6 @@
 -- A lookup in a loaded map that is not refused goes through at most 33 nodes.
 use Prim.Native.Nat.{ℕ, _+_, _-_, _^_, _≤_, min}
-use mathlib.Core.Path.{_≡_, refl, sym, ap, _∙_}
+use mathlib.Core.Path.{_≡_, refl, ap, _∙_}
 use mathlib.Core.List.{List}
 use mathlib.Core.Option.{Option}
 use lib.ListN.{length}
@@ -9,8 +9,8 @@ use Rattle.error.specs.Answer.{Answer, got, no}
 use Rattle.obj.specs.declared.reader.Reader.{Reader}
 use Rattle.node.specs.declared.layout.Node.{Node}
 use Rattle.node.specs.declared.layout.Info.{Info}
-use Rattle.lookup.specs.Counted.{Counted, after, from}
-use Rattle.lookup.specs.Path.{Through, atOnce, on, andThen, countAlong, counted}
+use Rattle.lookup.specs.Counted.{Counted, from}
+use Rattle.lookup.specs.Path.{atOnce, on, andThen, countAlong, counted}
 use Rattle.lookup.specs.Read.{nodeAt}
 use Rattle.lookup.specs.Lookup.{look, lookupLe}
 use Rattle.lookup.specs.Map.{mappingOf, targetFor, lookIn, mapLookup}
@@ -20,7 +20,7 @@ use Rattle.lookup.specs.declared.map.MapValue.{MapValue}
 use Rattle.lookup.proofs.Count.{counts-path, told-path}
 use Rattle.lookup.proofs.Theorems.{read-level, at-most-33}
 use Rattle.omap.specs.Load.{treeAt, layoutOf, mapOf, mapAt}
-use Rattle.omap.specs.Depth.{objectPath, Within33, LoadedWithin33}
+use Rattle.omap.specs.Depth.{objectPath, LoadedWithin33}
 
 -- what a counted answer that was got says of the answer before it
 from-got : {A B : Type 0} (s : ℕ) (a : Answer A) (f : A → Counted B) (y : B) → from s a f .answer ≡ got y → (x : A) × (a ≡ got x) × (f x .answer ≡ got y)

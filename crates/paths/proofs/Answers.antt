@@ -1,11 +1,10 @@
 -- A lookup with its node counts left out: what it answers goes by the answers of the entries and inodes that it reads.
 -- Document 01, "The listing": "A lookup goes by its whole answer, less what is left out of the comparison".
 use Prim.Native.Nat.{ℕ}
-use mathlib.Core.Path.{_≡_, refl, sym, ap, _∙_}
+use mathlib.Core.Path.{_≡_, refl, ap, _∙_}
 use mathlib.Core.Bool.{Bool, true, false}
 use mathlib.Core.List.{List, [], _∷_, map}
 use Rattle.error.specs.Answer.{Answer, got, no, _>>=_, pick}
-use Rattle.error.specs.declared.Refusal.{Refusal}
 use Rattle.error.specs.declared.Refusal.the-variants.{NotFound, CharacterNotCovered, PathNotUtf8}
 use Rattle.utf8.specs.Text.{sameBytes, strict}
 use Rattle.lookup.specs.Counted.{Counted, after, onto}

@@ -2,7 +2,7 @@
 use Prim.Native.Nat.{ℕ}
 use mathlib.Core.Path.{_≡_, sym, _∙_}
 use mathlib.Core.List.{List}
-use Rattle.error.specs.Answer.{Answer, got, no, _>>=_, ifEq}
+use Rattle.error.specs.Answer.{Answer, no, _>>=_, ifEq}
 use Rattle.error.proofs.Laws.{same, other}
 use Rattle.bytes.proofs.Laws.{name-part}
 use Rattle.error.specs.declared.Refusal.{Refusal}

@@ -13,7 +13,6 @@ use bytes::u64_at;
 use error::Refusal;
 use obj::Reader;
 ghost use mathlib.Core.Path.{_≡_};
-ghost use Rattle.bytes.specs.Part.{partOf};
 ghost use Rattle.records.specs.Attribute.{attributeTold, dataTold, streamIn, dataIn, withName, attributeValue, attributeAt, attributeName, attributeBytes};
 
 // Contents that lie in a data stream.

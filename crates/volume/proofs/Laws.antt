@@ -2,7 +2,7 @@
 use Prim.Native.Nat.{ℕ}
 use mathlib.Core.Path.{_≡_}
 use mathlib.Core.List.{List}
-use Rattle.error.specs.Answer.{Answer, no}
+use Rattle.error.specs.Answer.{no}
 use Rattle.error.specs.declared.Refusal.{Refusal}
 use Rattle.obj.specs.declared.reader.Reader.{Reader}
 use Rattle.node.specs.Node.{infoTold, infoOf}

@@ -7,11 +7,9 @@ use Rattle.arith.specs.Checked.{ticked}
 use Rattle.obj.specs.Block.{blockOf}
 use Rattle.obj.specs.declared.reader.Reader.{Reader}
 use Rattle.node.specs.Node.{infoOf}
-use Rattle.node.specs.declared.layout.Node.{Node}
 use Rattle.lookup.specs.Counted.{Counted, after, from, onto}
 use Rattle.lookup.specs.Read.{nodeAt}
 use Rattle.lookup.specs.Map.{resolveAt}
-use Rattle.lookup.specs.declared.map.Map.{Map}
 use Rattle.lookup.specs.declared.map.Resolve.the-variants.{Mapped}
 use Rattle.omap.specs.Load.{mapAt}
 use Rattle.nx.specs.Open.{openAt}

@@ -1,5 +1,5 @@
 use borrow.Author.Needs.{needs}
-use Rattle.entry_lines.proofs.Fitting.{passes, next-short, next-written}
+use Rattle.entry_lines.proofs.Fitting.{passes}
 use Rattle.entry_lines.proofs.put_next.Statement.{statement}
 use Rattle.entry_lines.proofs.put_next.Tie as tie
 

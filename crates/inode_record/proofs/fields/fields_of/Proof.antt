@@ -1,5 +1,4 @@
 use Prim.Native.Nat.{_-_}
-use borrow.Author.Needs.{needs}
 use Rattle.inode_record.proofs.Turns.{turns, Going}
 use Rattle.inode_record.proofs.fields.fields_of.Statement.{statement}
 use Rattle.inode_record.proofs.fields.fields_of.Tie as tie
