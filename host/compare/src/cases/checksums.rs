@@ -63,12 +63,23 @@ pub fn short(random: &mut Random, sink: Sink) {
 
 pub fn blocks(random: &mut Random, sink: Sink) {
     let near = |n: usize| n - 12..=n + 12;
-    // The Rust reduces its sums every 4,096 bytes from byte 8 on; without that, those of the longest pass 64 bits.
+    // The Rust reduces its sums every 4,096 bytes from byte 8 on, the port every 65,536; without that, those of the
+    // longest pass 64 bits.
     for size in near(4096).chain(near(8192)).chain(near(65536)).chain([16_384, 32_768, 131_072, 524_288]) {
         object(vec![0; size], random, sink);
         object(vec![0xff; size], random, sink);
         object(random.bytes(size), random, sink);
         object(one_word(size, random), random, sink);
         object(random.bytes(size).iter().map(|x| x | 0xf0).collect(), random, sink);
+    }
+}
+
+/// Parts of a longer slice, so that no word lies where the machine would have it.
+pub fn unaligned(random: &mut Random, sink: Sink) {
+    for size in [32, 40, 4096, 65_536, 65_544, 65_576, 131_080] {
+        for off in 1..8 {
+            both(&random.bytes(off + size)[off..], sink);
+            both(&vec![0xff; off + size][off..], sink);
+        }
     }
 }

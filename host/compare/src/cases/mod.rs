@@ -24,4 +24,5 @@ pub fn all(seed: u64, sink: Sink) {
     names::short(sink);
     names::drawn(&mut random, sink);
     names::not_covered(&mut random, sink);
+    checksums::unaligned(&mut random, sink);
 }
