@@ -94,25 +94,16 @@ pub child-node : (b : List ℕ) (q : Search) (child s : ℕ) (z : Counted Act) �
 unfolding childNode resolveAt
 child-node b q child s z e = lookup-laws.counted-then s (resolve (q .reader) b (q .resolve) child) _ z e
 
--- an entry that stands somehow is one of the node's
-pub order-known : (b : List ℕ) (q : Search) (m : Node) (i : ℕ) (r : Ordered) (o : Order) → orderTold r ≡ orderAt b q m i → r ≡ Ordered.Got o → i < m .nkeys
-unfolding orderAt keyValueAt
-order-known b q m i r o p e =
-    le-cases (λ (z : Answer KeyValue). got o ≡ (z >>= λ x. keyOrder q (partOf (bytesOf b q m) (x .key))) → i < m .nkeys)
-    (λ h g. absurd (let z : _≡_ {A = ℕ} 0 1 = cc in omega arith))
-    (λ h g. h)
-    (rw e at p)
-
 -- where the key or the child was read in a list s that is u
 module _ (s u : List ℕ) (e : s ≡ u) where
-  pub order-in : (q : Search) (z : Answer Order) → z ≡ keyOrder q s → z ≡ keyOrder q u
-  order-in q z h = rw e at h
+  pub order-of-part : (id kind : ℕ) (z : Answer Order) → z ≡ keyOrder id kind s → z ≡ keyOrder id kind u
+  order-of-part id kind z h = rw e at h
 
-  pub order-step-in : {B : Type 0} (q : Search) (r : Ordered) (f : Order → Answer B) (x : Order) (y : Answer B) → orderTold r ≡ keyOrder q s → r ≡ Ordered.Got x → y ≡ f x → y ≡ (keyOrder q u >>= f)
-  order-step-in q r f x y p g h = order-step r (keyOrder q u) (rw e at p) f x y g h
+  pub order-step-in : {B : Type 0} (id kind : ℕ) (r : Ordered) (f : Order → Answer B) (x : Order) (y : Answer B) → orderTold r ≡ keyOrder id kind s → r ≡ Ordered.Got x → y ≡ f x → y ≡ (keyOrder id kind u >>= f)
+  order-step-in id kind r f x y p g h = order-step r (keyOrder id kind u) (rw e at p) f x y g h
 
-  pub order-stop-in : {B : Type 0} (q : Search) (r : Ordered) (f : Order → Answer B) (w : Refusal) → orderTold r ≡ keyOrder q s → r ≡ Ordered.No w → no w ≡ (keyOrder q u >>= f)
-  order-stop-in q r f w p g = order-stop r (keyOrder q u) (rw e at p) f w g
+  pub order-stop-in : {B : Type 0} (id kind : ℕ) (r : Ordered) (f : Order → Answer B) (w : Refusal) → orderTold r ≡ keyOrder id kind s → r ≡ Ordered.No w → no w ≡ (keyOrder id kind u >>= f)
+  order-stop-in id kind r f w p g = order-stop r (keyOrder id kind u) (rw e at p) f w g
 
   module _ {B : Type 0} (m : Node) (info : Info) (i : ℕ) (r : Number) (p : bytes.told r ≡ childAt s m info i) (f : ℕ → Through B) (n : ℕ) where
     pub child-on-in : (x : ℕ) (y : Counted B) → r ≡ Number.Got x → y ≡ counted n (f x) → y ≡ counted n (on (childAt u m info i) f)
@@ -136,4 +127,4 @@ module _ (m : Node) (key : Span) (x : Value) where
 
 pub ruleset all = (lookup-laws.all, got-same, counted-same, order-below, order-inside, order-above, order-step, order-stop, order-on, order-off, node-on, node-off, lookup-laws.counted-now, lookup-laws.counted-by, counted-most, counted-above, counted-below, counted-inside, counted-over)
 
-pub ruleset parts = (lookup-laws.parts, order-in, order-step-in, order-stop-in, child-on-in, child-off-in, part-in)
+pub ruleset parts = (lookup-laws.parts, order-of-part, order-step-in, order-stop-in, child-on-in, child-off-in, part-in)

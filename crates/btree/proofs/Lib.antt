@@ -1,6 +1,9 @@
-pub mod Parts
-pub mod Laws
-pub mod Nth
-pub mod Places
-pub mod Turns
 pub mod Count
+pub mod Laws
+pub mod Leaves
+pub mod Nth
+pub mod Parts
+pub mod Places
+pub mod Reaching
+pub mod Seeking
+pub mod Turns

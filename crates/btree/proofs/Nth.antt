@@ -1,6 +1,6 @@
 -- A run's k-th record at the turns of a node, where k follows: nth of what is left is nth of the whole.
 use Prim.Native.Nat.{ℕ, zero, suc, _+_, _-_, _≤_, _<_}
-use mathlib.Core.Path.{_≡_, refl, ap, _∙_}
+use mathlib.Core.Path.{_≡_, refl, sym, ap, _∙_}
 use mathlib.Core.List.{List}
 use mathlib.Core.Option.{Option, none, some}
 use native.Mathlib.Omega.{arith}
@@ -12,21 +12,20 @@ use Rattle.arith.specs.Checked.{ticked}
 use Rattle.node.specs.Node.{leafBit}
 use Rattle.node.specs.declared.layout.Node.{Node}
 use Rattle.lookup.specs.Counted.{Counted, after}
-use Rattle.lookup.specs.Path.{counted}
-use Rattle.btree.specs.Entries.{itemTold, itemAt, turnTold, turnAt}
 use Rattle.btree.specs.Scan.{Run, more, end, refused, Tail, scanOf, nth, foundTold}
-use Rattle.btree.specs.Inner.{leafFrom, each, node, child, walk, met, passTold, foundOf}
+use Rattle.btree.specs.Inner.{leafFrom, inNode, each, Reaches, node, child, walk, met, passTold, foundOf}
 use Rattle.btree.specs.declared.entries.Search.{Search}
 use Rattle.btree.specs.declared.entries.Place.{Place}
 use Rattle.btree.specs.declared.entries.Found.{Found}
-use Rattle.btree.specs.declared.entries.Item.{Item}
-use Rattle.btree.specs.declared.entries.Item.the-variants as item
-use Rattle.btree.specs.declared.entries.Turned.{Turned}
-use Rattle.btree.specs.declared.entries.Turn.the-variants as turn
+use Rattle.btree.specs.declared.leaf.InLeaf.{InLeaf}
+use Rattle.btree.specs.declared.leaf.InLeaf.the-variants as leaf
+use Rattle.btree.specs.declared.seek.Turned.{Turned}
+use Rattle.btree.specs.declared.seek.Turn.the-variants as turn
 use Rattle.btree.specs.declared.skip.Pass.{Pass}
 use Rattle.btree.specs.declared.skip.Pass.the-variants.{At, Left, End, No}
 use Rattle.btree.specs.declared.skip.Passed.{Passed}
-use Rattle.btree.proofs.Turns.{leaf-done, leaf-pass, leaf-stop, leaf-at, leaf-no, each-done, each-stop, each-skip, each-into, each-no, node-leaf, node-index, child-lowest, child-off, child-on, root-low, root-high}
+use Rattle.btree.proofs.Leaves.{in-bound}
+use Rattle.btree.proofs.Turns.{leaf-passed, leaf-end, leaf-at, leaf-no, each-over, each-stop, each-into, each-no, node-leaf, node-index, child-lowest, child-off, child-on, root-low, root-high}
 
 pub nth-end : (n s : ℕ) → after s (got none) ≡ nth n (end s)
 unfolding nth
@@ -47,32 +46,32 @@ module _ (n : ℕ) (p : Place) (s : ℕ) (r : Run) (whole : Counted (Option Plac
   unfolding nth
   nth-past z = let k : n ≡ suc (n - 1) = omega arith in rw k at h
 
--- a turn at an entry of a leaf
-module _ (b : List ℕ) (q : Search) (m : Node) (i n s : ℕ) (k : Run) (whole : Counted (Option Place)) (p : nth n (leafFrom b q m (m .nkeys - i) i s k) ≡ whole) where
-  pub pass-done : m .nkeys ≤ i → nth n k ≡ whole
-  pass-done h = ap (nth n) (leaf-done b q m i s k _ refl h) ∙ p
+-- what is left of a leaf from an entry on, by its first record
+module _ (b : List ℕ) (q : Search) (m : Node) (i n s : ℕ) (k : Run) (whole : Counted (Option Place)) (p : nth n (leafFrom b q m (m .nkeys - i) i s k) ≡ whole) (r : InLeaf) (t : r ≡ inNode b q m i) where
+  pub pass-over : r ≡ leaf.Passed → nth n k ≡ whole
+  pass-over e = ap (nth n) (leaf-passed b q m i s k _ refl r t e) ∙ p
 
-  module _ (lt : i < m .nkeys) (r : Item) (t : itemTold r ≡ itemAt b q m i) where
-    pub pass-over : r ≡ item.Pass → nth n (leafFrom b q m (m .nkeys - (i + 1)) (i + 1) s k) ≡ whole
-    pass-over e = ap (nth n) (leaf-pass b q m i s k _ refl lt r t e) ∙ p
+  pub pass-end : r ≡ leaf.End → after s (got none) ≡ whole
+  pass-end e = nth-end n s ∙ (ap (nth n) (leaf-end b q m i s k _ refl r t e) ∙ p)
 
-    pub pass-stop : r ≡ item.Stop → after s (got none) ≡ whole
-    pass-stop e = nth-end n s ∙ (ap (nth n) (leaf-stop b q m i s k _ refl lt r t e) ∙ p)
+  pub pass-no : (w : Refusal) → r ≡ leaf.No w → after s (no w) ≡ whole
+  pass-no w e = nth-refused n s w ∙ (ap (nth n) (leaf-no b q m i s k _ refl r t w e) ∙ p)
 
-    pub pass-no : (w : Refusal) → r ≡ item.No w → after s (no w) ≡ whole
-    pass-no w e = nth-refused n s w ∙ (ap (nth n) (leaf-no b q m i s k _ refl lt r t w e) ∙ p)
+  module _ (x : Place) (a : ℕ) (e : r ≡ leaf.At x a) where
+    there : nth n (more x s (leafFrom b q m (m .nkeys - a) a s k)) ≡ whole
+    there = ap (nth n) (leaf-at b q m i s k _ refl r t x a e) ∙ p
 
-    module _ (x : Place) (e : r ≡ item.At x) where
-      there : nth n (more x s (leafFrom b q m (m .nkeys - (i + 1)) (i + 1) s k)) ≡ whole
-      there = ap (nth n) (leaf-at b q m i s k _ refl lt r t x e) ∙ p
+    pub pass-here : n ≡ 0 → after s (got (some x)) ≡ whole
+    pass-here z = nth-here n _ _ _ whole there z
 
-      pub pass-here : n ≡ 0 → after s (got (some x)) ≡ whole
-      pass-here z = nth-here n _ _ _ whole there z
+    pub pass-past : (n ≡ 0 → ⊥) → nth (n - 1) (leafFrom b q m (m .nkeys - a) a s k) ≡ whole
+    pass-past z = nth-past n _ _ _ whole there z
 
-      pub pass-past : (n ≡ 0 → ⊥) → nth (n - 1) (leafFrom b q m (m .nkeys - (i + 1)) (i + 1) s k) ≡ whole
-      pass-past z = nth-past n _ _ _ whole there z
+-- the entries that are left of a leaf grow fewer
+pub leaf-less : (b : List ℕ) (q : Search) (m : Node) (i : ℕ) (r : InLeaf) (x : Place) (a : ℕ) → r ≡ inNode b q m i → r ≡ leaf.At x a → m .nkeys - a < m .nkeys - i
+leaf-less b q m i r x a t e = let low = in-bound b q m i x a (sym t ∙ e) in omega (arith, low)
 
-pub ruleset leaves = (needs, pass-done, pass-over, pass-stop, pass-no, pass-here, pass-past)
+pub ruleset leaves = (needs, pass-over, pass-end, pass-no, pass-here, pass-past, leaf-less)
 
 -- an answer that was made
 module _ (r : Passed) (s : ℕ) (k : Tail) (whole : Counted (Option Place)) where
@@ -118,34 +117,34 @@ kept r j k h = of (r .pass) h
     of End f = refl
     of (No w) f = refl
 
--- a turn at an entry of an index node, c nodes having been gone through
-module _ (f : Node → Tail → Tail) (b : List ℕ) (q : Search) (m : Node) (i n : ℕ) (k : Tail) (c : ℕ) (whole : Counted (Option Place)) (p : nth n (each f b q m (m .nkeys - i) i k c) ≡ whole) where
-  pub turn-done : m .nkeys ≤ i → nth n (k c) ≡ whole
-  turn-done h = ap (nth n) (each-done f b q m i k c _ refl h) ∙ p
+-- what is left of an index node from an entry on, by its next turn, c nodes having been gone through
+module _ (f : Node → Tail → Tail) (b : List ℕ) (q : Search) (m : Node) (i n : ℕ) (k : Tail) (c : ℕ) (whole : Counted (Option Place)) (p : nth n (each f b q m (m .nkeys - i) i k c) ≡ whole) (r : Turned) (t : Reaches b q m i c r) where
+  pub turn-over : r .turn ≡ turn.Over → nth n (k (r .nodes)) ≡ whole
+  turn-over e = ap (nth n) (each-over f b q m i k c _ refl r t e) ∙ p
 
-  module _ (lt : i < m .nkeys) (r : Turned) (t : turnTold r ≡ counted c (turnAt b q m i)) where
-    pub turn-stop : r .turn ≡ turn.Stop → after (r .nodes) (got none) ≡ whole
-    turn-stop e = nth-end n (r .nodes) ∙ (ap (nth n) (each-stop f b q m i k c _ refl lt r t e) ∙ p)
+  pub turn-stop : r .turn ≡ turn.Stop → after (r .nodes) (got none) ≡ whole
+  turn-stop e = nth-end n (r .nodes) ∙ (ap (nth n) (each-stop f b q m i k c _ refl r t e) ∙ p)
 
-    pub turn-skip : r .turn ≡ turn.Skip → nth n (each f b q m (m .nkeys - (i + 1)) (i + 1) k (r .nodes)) ≡ whole
-    turn-skip e = ap (nth n) (each-skip f b q m i k c _ refl lt r t e) ∙ p
+  pub turn-no : (w : Refusal) → r .turn ≡ turn.No w → after (r .nodes) (no w) ≡ whole
+  turn-no w e = nth-refused n (r .nodes) w ∙ (ap (nth n) (each-no f b q m i k c _ refl r t w e) ∙ p)
 
-    pub turn-no : (w : Refusal) → r .turn ≡ turn.No w → after (r .nodes) (no w) ≡ whole
-    turn-no w e = nth-refused n (r .nodes) w ∙ (ap (nth n) (each-no f b q m i k c _ refl lt r t w e) ∙ p)
+  -- a child was gone into, and s came of it
+  module _ (d : Node) (g : r .turn ≡ turn.Into d) (s : Passed) (e : (j : Tail) → passTold s j ≡ nth n (f d j (r .nodes))) where
+    came : passTold s (each f b q m (m .nkeys - r .next) (r .next) k) ≡ whole
+    came = e _ ∙ (ap (nth n) (each-into f b q m i k c _ refl r t d g) ∙ p)
 
-    -- a child was gone into, and s came of it
-    module _ (d : Node) (g : r .turn ≡ turn.Into d) (s : Passed) (e : (j : Tail) → passTold s j ≡ nth n (f d j (r .nodes))) where
-      came : passTold s (each f b q m (m .nkeys - (i + 1)) (i + 1) k) ≡ whole
-      came = e _ ∙ (ap (nth n) (each-into f b q m i k c _ refl lt r t d g) ∙ p)
+    pub turn-left : (x : ℕ) → s .pass ≡ Left x → nth x (each f b q m (m .nkeys - r .next) (r .next) k (s .nodes)) ≡ whole
+    unfolding passTold
+    turn-left x h = rw h at came
 
-      pub turn-left : (x : ℕ) → s .pass ≡ Left x → nth x (each f b q m (m .nkeys - (i + 1)) (i + 1) k (s .nodes)) ≡ whole
-      unfolding passTold
-      turn-left x h = rw h at came
+    pub turn-kept : (j : Tail) → Final (s .pass) → passTold s j ≡ whole
+    turn-kept j h = kept s j _ h ∙ came
 
-      pub turn-kept : (j : Tail) → Final (s .pass) → passTold s j ≡ whole
-      turn-kept j h = kept s j _ h ∙ came
+-- the entries that are left of an index node grow fewer
+pub index-less : (b : List ℕ) (q : Search) (m : Node) (i s : ℕ) (r : Turned) (d : Node) → Reaches b q m i s r → r .turn ≡ turn.Into d → m .nkeys - r .next < m .nkeys - i
+index-less b q m i s r d t g = omega (arith, t .behind d g)
 
-pub ruleset indexes = (needs, made-left, made-end, made-no, final-at, final-end, final-no, turn-done, turn-stop, turn-skip, turn-no, turn-left, turn-kept)
+pub ruleset indexes = (needs, made-left, made-end, made-no, final-at, final-end, final-no, turn-over, turn-stop, turn-no, turn-left, turn-kept, index-less)
 
 -- a child, and a node
 module _ (b : List ℕ) (q : Search) (level n : ℕ) (m : Node) (k : Tail) (s : ℕ) where

@@ -1,6 +1,6 @@
 -- The turns at the entries of a node, and what a node and a child come to.
 use Prim.Native.Nat.{ℕ, zero, suc, _+_, _-_, _≤_, _<_}
-use mathlib.Core.Path.{_≡_, refl, ap, _∙_}
+use mathlib.Core.Path.{_≡_, refl, sym, ap, _∙_}
 use mathlib.Core.List.{List}
 use native.Mathlib.Numerals.{sub-one}
 use native.Mathlib.Omega.{arith}
@@ -12,71 +12,50 @@ use Rattle.error.proofs.Laws.{same, other}
 use Rattle.arith.specs.Checked.{ticked}
 use Rattle.node.specs.Node.{leafBit}
 use Rattle.node.specs.declared.layout.Node.{Node}
-use Rattle.lookup.specs.Path.{counted}
-use Rattle.btree.specs.Entries.{itemTold, itemAt, turnTold, turnAt}
 use Rattle.btree.specs.Scan.{Run, more, end, refused, Tail, scanOf}
-use Rattle.btree.specs.Inner.{leafThen, leafFrom, act, each, node, child, walk}
+use Rattle.btree.specs.Inner.{leafFrom, inNode, inThen, each, turnThen, Reaches, node, child, walk}
 use Rattle.btree.specs.declared.entries.Search.{Search}
 use Rattle.btree.specs.declared.entries.Place.{Place}
-use Rattle.btree.specs.declared.entries.Item.{Item}
-use Rattle.btree.specs.declared.entries.Item.the-variants as item
-use Rattle.btree.specs.declared.entries.Turn.the-variants as turn
-use Rattle.btree.specs.declared.entries.Turned.{Turned}
+use Rattle.btree.specs.declared.leaf.InLeaf.{InLeaf}
+use Rattle.btree.specs.declared.leaf.InLeaf.the-variants as leaf
+use Rattle.btree.specs.declared.seek.Turn.the-variants as turn
+use Rattle.btree.specs.declared.seek.Turned.{Turned}
 use Rattle.btree.proofs.Parts.{walk-scan, high-scan}
+use Rattle.btree.proofs.Leaves.{leaf-in}
 
--- a turn at an entry of a leaf
-module _ (b : List ℕ) (q : Search) (m : Node) (i s : ℕ) (k whole : Run) (p : leafFrom b q m (m .nkeys - i) i s k ≡ whole) where
-  pub leaf-done : m .nkeys ≤ i → k ≡ whole
-  unfolding leafFrom
-  leaf-done h = let n : m .nkeys - i ≡ 0 = omega arith in rw n at p
+-- what is left of a leaf from an entry on, by its first record
+module _ (b : List ℕ) (q : Search) (m : Node) (i s : ℕ) (k whole : Run) (p : leafFrom b q m (m .nkeys - i) i s k ≡ whole) (r : InLeaf) (t : r ≡ inNode b q m i) where
+  finds : inThen b q m r s k ≡ whole
+  finds = (rw t) ∙ (sym (leaf-in b q m i s k) ∙ p)
 
-  module _ (lt : i < m .nkeys) (r : Item) (t : itemTold r ≡ itemAt b q m i) where
-    goes : leafThen (itemTold r) s (leafFrom b q m (m .nkeys - (i + 1)) (i + 1) s k) ≡ whole
-    unfolding leafFrom
-    goes = let n : m .nkeys - i ≡ suc (m .nkeys - (i + 1)) = omega arith in rw t (rw n at p)
+  pub leaf-passed : r ≡ leaf.Passed → k ≡ whole
+  leaf-passed e = rw e at finds
 
-    pub leaf-pass : r ≡ item.Pass → leafFrom b q m (m .nkeys - (i + 1)) (i + 1) s k ≡ whole
-    unfolding leafThen
-    leaf-pass e = rw e at goes
+  pub leaf-end : r ≡ leaf.End → end s ≡ whole
+  leaf-end e = rw e at finds
 
-    pub leaf-stop : r ≡ item.Stop → end s ≡ whole
-    unfolding leafThen
-    leaf-stop e = rw e at goes
+  pub leaf-at : (x : Place) (a : ℕ) → r ≡ leaf.At x a → more x s (leafFrom b q m (m .nkeys - a) a s k) ≡ whole
+  leaf-at x a e = rw e at finds
 
-    pub leaf-at : (x : Place) → r ≡ item.At x → more x s (leafFrom b q m (m .nkeys - (i + 1)) (i + 1) s k) ≡ whole
-    unfolding leafThen
-    leaf-at x e = rw e at goes
+  pub leaf-no : (w : Refusal) → r ≡ leaf.No w → refused w s ≡ whole
+  leaf-no w e = rw e at finds
 
-    pub leaf-no : (w : Refusal) → r ≡ item.No w → refused w s ≡ whole
-    unfolding leafThen
-    leaf-no w e = rw e at goes
+-- what is left of an index node from an entry on, by its next turn
+module _ (f : Node → Tail → Tail) (b : List ℕ) (q : Search) (m : Node) (i : ℕ) (k : Tail) (s : ℕ) (whole : Run) (p : each f b q m (m .nkeys - i) i k s ≡ whole) (r : Turned) (t : Reaches b q m i s r) where
+  turns-to : turnThen f b q m (r .turn) (r .next) k (r .nodes) ≡ whole
+  turns-to = t .course f k ∙ p
 
--- a turn at an entry of an index node
-module _ (f : Node → Tail → Tail) (b : List ℕ) (q : Search) (m : Node) (i : ℕ) (k : Tail) (s : ℕ) (whole : Run) (p : each f b q m (m .nkeys - i) i k s ≡ whole) where
-  pub each-done : m .nkeys ≤ i → k s ≡ whole
-  unfolding each
-  each-done h = let n : m .nkeys - i ≡ 0 = omega arith in rw n at p
+  pub each-over : r .turn ≡ turn.Over → k (r .nodes) ≡ whole
+  each-over e = rw e at turns-to
 
-  module _ (lt : i < m .nkeys) (r : Turned) (t : turnTold r ≡ counted s (turnAt b q m i)) where
-    acts : act f (turnTold r) (each f b q m (m .nkeys - (i + 1)) (i + 1) k) ≡ whole
-    unfolding each
-    acts = let n : m .nkeys - i ≡ suc (m .nkeys - (i + 1)) = omega arith in rw t (rw n at p)
+  pub each-stop : r .turn ≡ turn.Stop → end (r .nodes) ≡ whole
+  each-stop e = rw e at turns-to
 
-    pub each-stop : r .turn ≡ turn.Stop → end (r .nodes) ≡ whole
-    unfolding act
-    each-stop e = rw e at acts
+  pub each-into : (c : Node) → r .turn ≡ turn.Into c → f c (each f b q m (m .nkeys - r .next) (r .next) k) (r .nodes) ≡ whole
+  each-into c e = rw e at turns-to
 
-    pub each-skip : r .turn ≡ turn.Skip → each f b q m (m .nkeys - (i + 1)) (i + 1) k (r .nodes) ≡ whole
-    unfolding act
-    each-skip e = rw e at acts
-
-    pub each-into : (c : Node) → r .turn ≡ turn.Into c → f c (each f b q m (m .nkeys - (i + 1)) (i + 1) k) (r .nodes) ≡ whole
-    unfolding act
-    each-into c e = rw e at acts
-
-    pub each-no : (w : Refusal) → r .turn ≡ turn.No w → refused w (r .nodes) ≡ whole
-    unfolding act
-    each-no w e = rw e at acts
+  pub each-no : (w : Refusal) → r .turn ≡ turn.No w → refused w (r .nodes) ≡ whole
+  each-no w e = rw e at turns-to
 
 -- a node, by its flag
 module _ (f : Node → Tail → Tail) (b : List ℕ) (q : Search) (m : Node) (i : ℕ) (k : Tail) where
@@ -119,4 +98,4 @@ module _ (b : List ℕ) (q : Search) (s : ℕ) where
   pub root-high : 32 < q .root .level → refused Corrupt s ≡ scanOf b q s
   root-high h = high-scan b q s h
 
-pub ruleset turns = (needs, leaf-done, leaf-pass, leaf-stop, leaf-at, leaf-no, each-done, each-stop, each-skip, each-into, each-no, node-leaf, node-index, child-lowest, child-off, child-on, root-high)
+pub ruleset turns = (needs, leaf-passed, leaf-end, leaf-at, leaf-no, each-over, each-stop, each-into, each-no, node-leaf, node-index, child-lowest, child-off, child-on, root-high)

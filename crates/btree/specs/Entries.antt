@@ -9,6 +9,9 @@ use Rattle.obj.specs.Block.{blockOf}
 use Rattle.obj.specs.declared.reader.Reader.{Reader}
 use Rattle.node.specs.Entry.{keyValueAt, childAt}
 use Rattle.node.specs.declared.layout.Node.{Node}
+use Rattle.node.specs.declared.layout.Info.{Info}
+use Rattle.node.specs.declared.layout.Parsed.{Parsed}
+use Rattle.node.specs.declared.layout.Parsed.the-variants as parsed
 use Rattle.node.specs.declared.table.Value.{Value}
 use Rattle.node.specs.declared.table.Value.the-variants as value
 use Rattle.lookup.specs.Counted.{Counted, after}
@@ -23,9 +26,7 @@ use Rattle.btree.specs.declared.entries.Ordered.{Ordered}
 use Rattle.btree.specs.declared.entries.Ordered.the-variants as ordered
 use Rattle.btree.specs.declared.entries.Item.{Item}
 use Rattle.btree.specs.declared.entries.Item.the-variants as item
-use Rattle.btree.specs.declared.entries.Turn.{Turn}
-use Rattle.btree.specs.declared.entries.Turn.the-variants as turn
-use Rattle.btree.specs.declared.entries.Turned.{Turned}
+use Rattle.btree.specs.declared.entries.Entering.{Entering}
 
 -- the bytes of a node's block
 abbrev pub bytesOf : List ℕ → Search → Node → List ℕ
@@ -42,19 +43,22 @@ abbrev pub orderTold : Ordered → Answer Order
 orderTold (ordered.Got o) = got o
 orderTold (ordered.No e) = no e
 
--- a key begins with a number of 64 bits: the id in the low 60, the kind in the high 4; the id is compared first (fs.rs, `records`)
-unfoldable pub orderOf : Search → ℕ → Order
-orderOf q h =
-    ifEq (h % 2 ^ 60) (q .id)
-    (ifEq (h / 2 ^ 60) (q .kind) Inside (ifLe (h / 2 ^ 60) (q .kind) Below Above))
-    (ifLe (h % 2 ^ 60) (q .id) Below Above)
+-- a key begins with a number of 64 bits, h: the id in the low 60, the kind in the high 4; the id is compared first (fs.rs, `records`)
+unfoldable pub orderOf : ℕ → ℕ → ℕ → Order
+orderOf id kind h =
+    ifEq (h % 2 ^ 60) id
+    (ifEq (h / 2 ^ 60) kind Inside (ifLe (h / 2 ^ 60) kind Below Above))
+    (ifLe (h % 2 ^ 60) id Below Above)
 
-unfoldable pub keyOrder : Search → List ℕ → Answer Order
-keyOrder q key = numberAt 8 key 0 >>= λ h. got (orderOf q h)
+unfoldable pub keyOrder : ℕ → ℕ → List ℕ → Answer Order
+keyOrder id kind key = numberAt 8 key 0 >>= λ h. got (orderOf id kind h)
 
--- how the i-th entry of a node stands to what is searched (btree.rs, `window`)
-unfoldable pub orderAt : List ℕ → Search → Node → ℕ → Answer Order
-orderAt b q m i = keyValueAt (bytesOf b q m) m (q .info) i >>= λ e. keyOrder q (partOf (bytesOf b q m) (e .key))
+-- how the i-th entry of a node in the block b stands to an id and a kind (btree.rs, `window`)
+unfoldable pub orderIn : List ℕ → Node → Info → ℕ → ℕ → ℕ → Answer Order
+orderIn b m info id kind i = keyValueAt b m info i >>= λ e. keyOrder id kind (partOf b (e .key))
+
+abbrev pub orderAt : List ℕ → Search → Node → ℕ → Answer Order
+orderAt b q m i = orderIn (bytesOf b q m) m (q .info) (q .id) (q .kind) i
 
 unfoldable pub byOrder : {A : Type 0} → Order → A → A → A → A
 byOrder Below x y z = x
@@ -78,12 +82,15 @@ unfoldable pub recordOf : Node → Span → Value → Leaf
 recordOf m key (value.At v) = recordAt (record { block = m .block; key = key; value = v })
 recordOf m key value.Missing = passOver
 
--- the i-th entry of a leaf, read with its value
-unfoldable pub itemAt : List ℕ → Search → Node → ℕ → Answer Leaf
-itemAt b q m i =
-    keyValueAt (bytesOf b q m) m (q .info) i >>= λ e.
-    keyOrder q (partOf (bytesOf b q m) (e .key)) >>= λ o.
+-- the i-th entry of a leaf in the block b, read with its value
+unfoldable pub itemIn : List ℕ → Node → Info → ℕ → ℕ → ℕ → Answer Leaf
+itemIn b m info id kind i =
+    keyValueAt b m info i >>= λ e.
+    keyOrder id kind (partOf b (e .key)) >>= λ o.
     byOrder o (got passOver) (got (recordOf m (e .key) (e .value))) (got endScan)
+
+abbrev pub itemAt : List ℕ → Search → Node → ℕ → Answer Leaf
+itemAt b q m i = itemIn (bytesOf b q m) m (q .info) (q .id) (q .kind) i
 
 -- what a scan does at an entry of an index node (btree.rs, `scan_node`)
 pub data Act : Type 0 where
@@ -91,14 +98,12 @@ pub data Act : Type 0 where
   skip : Act
   into : Node → Act
 
-abbrev pub actTold : Turn → Answer Act
-actTold turn.Stop = got stop
-actTold turn.Skip = got skip
-actTold (turn.Into m) = got (into m)
-actTold (turn.No e) = no e
+abbrev pub intoTold : Parsed → Answer Act
+intoTold (parsed.Got m) = got (into m)
+intoTold (parsed.No e) = no e
 
-abbrev pub turnTold : Turned → Counted Act
-turnTold t = after (t .nodes) (actTold (t .turn))
+abbrev pub enteringTold : Entering → Counted Act
+enteringTold t = after (t .nodes) (intoTold (t .node))
 
 -- the node of a child: its name may be looked up in an object map, and it is gone through once its block has passed as a node (btree.rs, `read_child`)
 unfoldable pub childNode : List ℕ → Search → ℕ → Through Act

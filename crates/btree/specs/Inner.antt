@@ -1,20 +1,34 @@
 -- The scan as the code's loops go: a buyer may pass over this file. A definition takes what follows it, k, by the count so far.
 -- `walk` of a root is proved to be `countedPart` of its `nodePart` (proofs/Parts.antt); the rest is what is left of a loop.
-use Prim.Native.Nat.{ℕ, zero, suc, _+_, _-_}
+use Prim.Native.Nat.{ℕ, zero, suc, _+_, _-_, _≤_, _<_}
+use mathlib.Core.Path.{_≡_}
 use mathlib.Core.List.{List}
 use mathlib.Core.Option.{Option, none, some}
 use Rattle.error.specs.Answer.{Answer, got, no, ifEq}
 use Rattle.error.specs.declared.Refusal.the-variants.{Corrupt}
 use Rattle.node.specs.Node.{leafBit}
 use Rattle.node.specs.declared.layout.Node.{Node}
+use Rattle.node.specs.declared.layout.Info.{Info}
+use Rattle.node.specs.declared.layout.Parsed.{Parsed}
+use Rattle.node.specs.declared.layout.Parsed.the-variants as parsed
 use Rattle.lookup.specs.Counted.{Counted, after}
 use Rattle.lookup.specs.Path.{counted}
-use Rattle.btree.specs.Entries.{Leaf, passOver, endScan, recordAt, itemAt, Act, stop, skip, into, turnAt}
+use Rattle.lookup.specs.Read.{nodeAt}
+use Rattle.btree.specs.Entries.{bytesOf, orderIn, Leaf, passOver, endScan, recordAt, itemIn, itemAt, Act, stop, skip, into, enterAt, turnAt}
 use Rattle.btree.specs.Scan.{Run, more, end, refused, Tail, nth}
 use Rattle.btree.specs.declared.entries.Search.{Search}
 use Rattle.btree.specs.declared.entries.Place.{Place}
+use Rattle.btree.specs.declared.entries.Order.{Order}
+use Rattle.btree.specs.declared.entries.Order.the-variants.{Below, Inside, Above}
 use Rattle.btree.specs.declared.entries.Found.{Found}
 use Rattle.btree.specs.declared.entries.Found.the-variants as found
+use Rattle.btree.specs.declared.leaf.InLeaf.{InLeaf}
+use Rattle.btree.specs.declared.leaf.InLeaf.the-variants as leaf
+use Rattle.btree.specs.declared.seek.Seek.{Seek}
+use Rattle.btree.specs.declared.seek.Seek.the-variants as seek
+use Rattle.btree.specs.declared.seek.Turn.{Turn}
+use Rattle.btree.specs.declared.seek.Turn.the-variants as turn
+use Rattle.btree.specs.declared.seek.Turned.{Turned}
 use Rattle.btree.specs.declared.skip.Pass.{Pass}
 use Rattle.btree.specs.declared.skip.Pass.the-variants.{At, Left, End, No}
 use Rattle.btree.specs.declared.skip.Passed.{Passed}
@@ -31,6 +45,27 @@ unfoldable pub leafFrom : List ℕ → Search → Node → ℕ → ℕ → ℕ �
 leafFrom b q m zero i s k = k
 leafFrom b q m (suc n) i s k = leafThen (itemAt b q m i) s (leafFrom b q m n (i + 1) s k)
 
+-- the first record of n entries of a leaf in the block b, from the i-th on, and the entry after it
+abbrev pub itemThen : Answer Leaf → ℕ → InLeaf → InLeaf
+itemThen (got passOver) i k = k
+itemThen (got endScan) i k = leaf.End
+itemThen (got (recordAt p)) i k = leaf.At p i
+itemThen (no e) i k = leaf.No e
+
+unfoldable pub inLeaf : List ℕ → Node → Info → ℕ → ℕ → ℕ → ℕ → InLeaf
+inLeaf b m info id kind zero i = leaf.Passed
+inLeaf b m info id kind (suc n) i = itemThen (itemIn b m info id kind i) (i + 1) (inLeaf b m info id kind n (i + 1))
+
+abbrev pub inNode : List ℕ → Search → Node → ℕ → InLeaf
+inNode b q m i = inLeaf (bytesOf b q m) m (q .info) (q .id) (q .kind) (m .nkeys - i) i
+
+-- what such a record stands for, where k follows the leaf: `leafFrom` (`leaf-in`, proofs/Leaves.antt)
+abbrev pub inThen : List ℕ → Search → Node → InLeaf → ℕ → Run → Run
+inThen b q m (leaf.At p a) s k = more p s (leafFrom b q m (m .nkeys - a) a s k)
+inThen b q m leaf.Passed s k = k
+inThen b q m leaf.End s k = end s
+inThen b q m (leaf.No e) s k = refused e s
+
 abbrev pub acting : (Node → Tail → Tail) → Answer Act → Tail → Tail
 acting f (got stop) k = end
 acting f (got skip) k = k
@@ -45,6 +80,63 @@ act f c k = acting f (c .answer) k (c .nodes)
 unfoldable pub each : (Node → Tail → Tail) → List ℕ → Search → Node → ℕ → ℕ → Tail → Tail
 each f b q m zero i k = k
 each f b q m (suc n) i k = λ s. act f (counted s (turnAt b q m i)) (each f b q m n (i + 1) k)
+
+-- the entry that is gone into, of n entries of an index node in the block b from the i-th on: one is skipped where it is not above and
+-- its next is below
+abbrev pub nextThen : Answer Order → ℕ → Seek → Seek
+nextThen (got Below) i k = k
+nextThen (got Inside) i k = seek.At i
+nextThen (got Above) i k = seek.At i
+nextThen (no e) i k = seek.No e
+
+-- n entries come after the i-th
+abbrev pub followThen : ℕ → Answer Order → ℕ → Seek → Seek
+followThen zero a i k = seek.At i
+followThen (suc n) a i k = nextThen a i k
+
+abbrev pub hereThen : Answer Order → Seek → Seek
+hereThen (got Below) k = k
+hereThen (got Inside) k = k
+hereThen (got Above) k = seek.Stop
+hereThen (no e) k = seek.No e
+
+unfoldable pub seekIn : List ℕ → Node → Info → ℕ → ℕ → ℕ → ℕ → Seek
+seekIn b m info id kind zero i = seek.Over
+seekIn b m info id kind (suc n) i =
+    hereThen (orderIn b m info id kind i)
+    (followThen n (orderIn b m info id kind (i + 1)) i (seekIn b m info id kind n (i + 1)))
+
+abbrev pub seekAt : List ℕ → Search → Node → ℕ → Seek
+seekAt b q m i = seekIn (bytesOf b q m) m (q .info) (q .id) (q .kind) (m .nkeys - i) i
+
+-- the same of an entry that is not above
+unfoldable pub followIn : List ℕ → Node → Info → ℕ → ℕ → ℕ → Seek
+followIn b m info id kind i =
+    followThen (m .nkeys - (i + 1)) (orderIn b m info id kind (i + 1)) i (seekIn b m info id kind (m .nkeys - (i + 1)) (i + 1))
+
+-- what it comes to, where k follows the node: `each` (`each-seek`, proofs/Seeking.antt)
+abbrev pub seekThen : (Node → Tail → Tail) → List ℕ → Search → Node → Seek → Tail → Tail
+seekThen f b q m seek.Over k s = k s
+seekThen f b q m seek.Stop k s = end s
+seekThen f b q m (seek.At i) k s = act f (counted s (enterAt b q m i)) (each f b q m (m .nkeys - (i + 1)) (i + 1) k)
+seekThen f b q m (seek.No e) k s = refused e s
+
+abbrev pub turnOf : Parsed → Turn
+turnOf (parsed.Got c) = turn.Into c
+turnOf (parsed.No e) = turn.No e
+
+-- what a turn comes to, where k follows the node
+abbrev pub turnThen : (Node → Tail → Tail) → List ℕ → Search → Node → Turn → ℕ → Tail → Tail
+turnThen f b q m turn.Over i k s = k s
+turnThen f b q m turn.Stop i k s = end s
+turnThen f b q m (turn.Into c) i k s = f c (each f b q m (m .nkeys - i) i k) s
+turnThen f b q m (turn.No e) i k s = refused e s
+
+-- r is the next turn of an index node from its i-th entry on, s nodes having been gone through: the node goes on behind a child, which was read
+pub record Reaches (b : List ℕ) (q : Search) (m : Node) (i s : ℕ) (r : Turned) : Type 0 where
+  pub course : (f : Node → Tail → Tail) (k : Tail) → turnThen f b q m (r .turn) (r .next) k (r .nodes) ≡ each f b q m (m .nkeys - i) i k s
+  pub behind : (c : Node) → r .turn ≡ turn.Into c → (i < r .next) × (r .next ≤ m .nkeys)
+  pub known : (c : Node) → r .turn ≡ turn.Into c → nodeAt (q .reader) b (c .block) ≡ got c
 
 -- a node from its i-th entry on; a leaf is told by its flag, at any level (btree.rs, `is_leaf`)
 unfoldable pub node : (Node → Tail → Tail) → List ℕ → Search → Node → ℕ → Tail → Tail

@@ -17,10 +17,9 @@ use node::child_of;
 use node::entry;
 use obj::Reader;
 ghost use mathlib.Core.Path.{_≡_};
-ghost use Prim.Native.Nat.{_<_};
 ghost use Rattle.error.specs.Answer.{got};
 ghost use Rattle.lookup.specs.Path.{counted};
-ghost use Rattle.btree.specs.Entries.{keyOf, valueOf, orderTold, keyOrder, orderOf, orderAt, itemTold, itemAt, recordOf, turnTold, childNode, enterAt, followAt, turnAt};
+ghost use Rattle.btree.specs.Entries.{keyOf, valueOf, orderTold, keyOrder, orderOf, orderIn, itemTold, itemIn, recordOf, enteringTold, childNode, enterAt};
 
 // The records of an id and a kind in the tree below a root.
 pub struct Search {
@@ -72,16 +71,9 @@ pub enum Item {
     No(Refusal),
 }
 
-// What to do at an entry of an index node.
-pub enum Turn {
-    Stop,
-    Skip,
-    Into(Node),
-    No(Refusal),
-}
-
-pub struct Turned {
-    pub turn: Turn,
+// A child that was read, and the nodes gone through.
+pub struct Entering {
+    pub node: Parsed,
     pub nodes: u64,
 }
 
@@ -99,14 +91,14 @@ pub fn value_of(reader: Reader, image: &[u8], place: Place) -> &[u8]
     part(reader.block(image, place.block), place.value)
 }
 
-// The id is compared before the kind.
-fn order_of(q: Search, head: u64) -> Order
-    ensures { λ r. ⌜ r ≡ orderOf q head ⌝ }
+// How a key that begins with `head` stands to an id and a kind: the id is compared first.
+fn order_of(wanted_id: u64, wanted_kind: u8, head: u64) -> Order
+    ensures { λ r. ⌜ r ≡ orderOf «wanted_id» «wanted_kind» head ⌝ }
 {
     let id = head % 1152921504606846976;
     let kind = head / 1152921504606846976;
-    let wanted = q.kind as u64;
-    if id == q.id {
+    let wanted = wanted_kind as u64;
+    if id == wanted_id {
         if kind == wanted {
             return Order::Inside;
         }
@@ -115,28 +107,27 @@ fn order_of(q: Search, head: u64) -> Order
         }
         return Order::Above;
     }
-    if id <= q.id {
+    if id <= wanted_id {
         return Order::Below;
     }
     Order::Above
 }
 
-fn key_order(q: Search, key: &[u8]) -> Ordered
-    ensures { λ r. ⌜ orderTold r ≡ keyOrder q (now (key .entry)) ⌝ }
+fn key_order(id: u64, kind: u8, key: &[u8]) -> Ordered
+    ensures { λ r. ⌜ orderTold r ≡ keyOrder id kind (now (key .entry)) ⌝ }
 {
     match u64_at(key, 0) {
-        Number::Got(head) => Ordered::Got(order_of(q, head)),
+        Number::Got(head) => Ordered::Got(order_of(id, kind, head)),
         Number::No(e) => Ordered::No(e),
     }
 }
 
-// How the i-th entry of a node stands to what is searched.
-fn order_at(image: &[u8], q: Search, node: Node, i: u32) -> Ordered
-    ensures { λ r. ⌜ orderTold r ≡ orderAt (now (image .entry)) q node i ⌝ }
+// How the i-th entry of a node in the block b stands to what is searched.
+pub fn order_in(b: &[u8], node: Node, info: Info, id: u64, kind: u8, i: u32) -> Ordered
+    ensures { λ r. ⌜ orderTold r ≡ orderIn (now (b .entry)) node info id kind i ⌝ }
 {
-    let b = q.reader.block(image, node.block);
-    match entry(b, node, q.info, i) {
-        Entered::Got(e) => key_order(q, part(b, e.key)),
+    match entry(b, node, info, i) {
+        Entered::Got(e) => key_order(id, kind, part(b, e.key)),
         Entered::No(e) => Ordered::No(e),
     }
 }
@@ -155,13 +146,12 @@ fn record_of(node: Node, key: Span, value: Value) -> Item
     }
 }
 
-// The i-th entry of a leaf.
-pub fn item_at(image: &[u8], q: Search, node: Node, i: u32) -> Item
-    ensures { λ r. ⌜ itemTold r ≡ itemAt (now (image .entry)) q node i ⌝ }
+// The i-th entry of a leaf in the block b.
+pub fn item_in(b: &[u8], node: Node, info: Info, id: u64, kind: u8, i: u32) -> Item
+    ensures { λ r. ⌜ itemTold r ≡ itemIn (now (b .entry)) node info id kind i ⌝ }
 {
-    let b = q.reader.block(image, node.block);
-    match entry(b, node, q.info, i) {
-        Entered::Got(e) => match key_order(q, part(b, e.key)) {
+    match entry(b, node, info, i) {
+        Entered::Got(e) => match key_order(id, kind, part(b, e.key)) {
             Ordered::Got(o) => match o {
                 Order::Below => Item::Pass,
                 Order::Inside => {
@@ -177,85 +167,38 @@ pub fn item_at(image: &[u8], q: Search, node: Node, i: u32) -> Item
 }
 
 // The node that a child's name leads to.
-fn read_child(image: &[u8], q: Search, child: u64, nodes: u64) -> Turned
-    ensures { λ r. ⌜ turnTold r ≡ counted nodes (childNode (now (image .entry)) q child) ⌝ }
+fn read_child(image: &[u8], q: Search, child: u64, nodes: u64) -> Entering
+    ensures { λ r. ⌜ enteringTold r ≡ counted nodes (childNode (now (image .entry)) q child) ⌝ }
 {
     let resolve = q.resolve;
     let resolved = resolve_child(q.reader, image, resolve, child, nodes);
     let paddr = resolved.paddr;
     match paddr {
         Number::Got(p) => match read_node(q.reader, image, p) {
-            Parsed::Got(m) => {
-                let counted = tick(resolved.nodes);
-                Turned {
-                    turn: Turn::Into(m),
-                    nodes: counted,
-                }
-            }
-            Parsed::No(e) => Turned {
-                turn: Turn::No(e),
+            Parsed::Got(m) => Entering {
+                node: Parsed::Got(m),
+                nodes: tick(resolved.nodes),
+            },
+            Parsed::No(e) => Entering {
+                node: Parsed::No(e),
                 nodes: resolved.nodes,
             },
         },
-        Number::No(e) => Turned {
-            turn: Turn::No(e),
+        Number::No(e) => Entering {
+            node: Parsed::No(e),
             nodes: resolved.nodes,
         },
     }
 }
 
 // The child of the i-th entry of an index node.
-fn enter(image: &[u8], q: Search, node: Node, i: u32, nodes: u64) -> Turned
-    ensures { λ r. ⌜ turnTold r ≡ counted nodes (enterAt (now (image .entry)) q node i) ⌝ }
+pub fn enter(image: &[u8], q: Search, node: Node, i: u32, nodes: u64) -> Entering
+    ensures { λ r. ⌜ enteringTold r ≡ counted nodes (enterAt (now (image .entry)) q node i) ⌝ }
 {
     match child_of(q.reader.block(image, node.block), node, q.info, i) {
         Number::Got(child) => read_child(image, q, child, nodes),
-        Number::No(e) => Turned {
-            turn: Turn::No(e),
-            nodes: nodes,
-        },
-    }
-}
-
-// The child of an entry, unless the entry after it is still below.
-fn follow(image: &[u8], q: Search, node: Node, i: u32, nodes: u64) -> Turned
-    requires { ⌜ i < node .nkeys ⌝ }
-    ensures { λ r. ⌜ turnTold r ≡ counted nodes (followAt (now (image .entry)) q node i) ⌝ }
-{
-    if node.nkeys <= i + 1 {
-        return enter(image, q, node, i, nodes);
-    }
-    match order_at(image, q, node, i + 1) {
-        Ordered::Got(o) => match o {
-            Order::Below => Turned {
-                turn: Turn::Skip,
-                nodes: nodes,
-            },
-            Order::Inside => enter(image, q, node, i, nodes),
-            Order::Above => enter(image, q, node, i, nodes),
-        },
-        Ordered::No(e) => Turned {
-            turn: Turn::No(e),
-            nodes: nodes,
-        },
-    }
-}
-
-// The i-th entry of an index node.
-pub fn decide(image: &[u8], q: Search, node: Node, i: u32, nodes: u64) -> Turned
-    ensures { λ r. ⌜ turnTold r ≡ counted nodes (turnAt (now (image .entry)) q node i) ⌝ }
-{
-    match order_at(image, q, node, i) {
-        Ordered::Got(o) => match o {
-            Order::Below => follow(image, q, node, i, nodes),
-            Order::Inside => follow(image, q, node, i, nodes),
-            Order::Above => Turned {
-                turn: Turn::Stop,
-                nodes: nodes,
-            },
-        },
-        Ordered::No(e) => Turned {
-            turn: Turn::No(e),
+        Number::No(e) => Entering {
+            node: Parsed::No(e),
             nodes: nodes,
         },
     }

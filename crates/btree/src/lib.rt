@@ -1,7 +1,10 @@
 // The records of an id and a kind in a B-tree, in order (btree.rs, `scan`).
 mod entries;
+mod leaf;
+mod seek;
 mod skip;
 
+pub use entries::Entering;
 pub use entries::Found;
 pub use entries::Item;
 pub use entries::Order;
@@ -9,12 +12,14 @@ pub use entries::Ordered;
 pub use entries::Place;
 pub use entries::Scanned;
 pub use entries::Search;
-pub use entries::Turn;
-pub use entries::Turned;
-pub use entries::decide;
-pub use entries::item_at;
 pub use entries::key_of;
 pub use entries::value_of;
+pub use leaf::InLeaf;
+pub use leaf::next_in;
+pub use seek::Seek;
+pub use seek::Turn;
+pub use seek::Turned;
+pub use seek::next_child;
 pub use skip::Pass;
 pub use skip::Passed;
 pub use skip::scan;

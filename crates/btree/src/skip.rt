@@ -1,12 +1,12 @@
 // The record of a scan after a number of others: a recursion on the falling level that passes on how many remain to skip.
 use crate::entries::Found;
-use crate::entries::Item;
 use crate::entries::Place;
 use crate::entries::Scanned;
 use crate::entries::Search;
-use crate::entries::Turn;
-use crate::entries::decide;
-use crate::entries::item_at;
+use crate::leaf::InLeaf;
+use crate::leaf::next_in;
+use crate::seek::Turn;
+use crate::seek::next_child;
 use arith::tick;
 use error::Refusal;
 use node::Node;
@@ -42,23 +42,20 @@ fn pass_leaf(image: &[u8], q: Search, node: Node, skip: u64) -> Pass
 {
     let mut left = skip;
     let mut i: u32 = 0;
-    while i < node.nkeys {
-        match item_at(image, q, node, i) {
-            Item::Pass => {
-                i += 1;
-            }
-            Item::Stop => return Pass::End,
-            Item::At(p) => {
+    loop {
+        match next_in(image, q, node, i) {
+            InLeaf::Passed => return Pass::Left(left),
+            InLeaf::End => return Pass::End,
+            InLeaf::No(e) => return Pass::No(e),
+            InLeaf::At(p, after) => {
                 if left == 0 {
                     return Pass::At(p);
                 }
                 left -= 1;
-                i += 1;
+                i = after;
             }
-            Item::No(e) => return Pass::No(e),
         }
     }
-    Pass::Left(left)
 }
 
 fn pass_node(image: &[u8], q: Search, level: u16, node: Node, skip: u64, nodes: u64) -> Passed
@@ -73,14 +70,14 @@ fn pass_node(image: &[u8], q: Search, level: u16, node: Node, skip: u64, nodes: 
     let mut left = skip;
     let mut n = nodes;
     let mut i: u32 = 0;
-    while i < node.nkeys {
-        let t = decide(image, q, node, i, n);
+    loop {
+        let t = next_child(image, q, node, i, n);
         let turn = t.turn;
-        i += 1;
+        i = t.next;
         n = t.nodes;
         match turn {
+            Turn::Over => return pass_of(Pass::Left(left), n),
             Turn::Stop => return pass_of(Pass::End, n),
-            Turn::Skip => {}
             Turn::Into(m) => {
                 let s = pass_child(image, q, level, m, left, n);
                 let pass = s.pass;
@@ -97,7 +94,6 @@ fn pass_node(image: &[u8], q: Search, level: u16, node: Node, skip: u64, nodes: 
             Turn::No(e) => return pass_of(Pass::No(e), n),
         }
     }
-    pass_of(Pass::Left(left), n)
 }
 
 fn pass_child(image: &[u8], q: Search, level: u16, m: Node, skip: u64, nodes: u64) -> Passed

@@ -9,19 +9,18 @@ use Rattle.error.specs.declared.Refusal.{Refusal}
 use Rattle.error.specs.declared.Refusal.the-variants.{Corrupt}
 use Rattle.error.proofs.Laws.{at-most, above}
 use Rattle.lookup.specs.Counted.{Counted, after, onto}
-use Rattle.btree.specs.Scan.{scanOf}
+use Rattle.btree.specs.Scan.{Run, scanOf}
 use Rattle.btree.specs.declared.entries.Search.{Search}
 use Rattle.btree.specs.declared.entries.Place.{Place}
-use Rattle.btree.specs.declared.entries.Found.the-variants.{At, End}
-use Rattle.cursor.specs.Left.{left, runOf}
-use Rattle.cursor.specs.declared.Step.{Step}
+use Rattle.cursor.specs.Left.{runAt, inStep, Begins}
+use Rattle.cursor.specs.declared.steps.Step.{Step}
 use Rattle.volume.specs.declared.Volume.{Volume}
-use Rattle.records.specs.Extent.{extentTold, extentAt}
+use Rattle.records.specs.Extent.{extentAt}
 use Rattle.records.specs.declared.extent.Extent.{Extent}
-use Rattle.records.specs.declared.extent.ExtentRead.{ExtentRead}
 use Rattle.inode_record.specs.declared.inode.Inode.{Inode}
 use Rattle.lists.specs.Lists.{searchOf, listOf}
-use Rattle.lists.proofs.Reading.{reading, list-start, list-end, list-next}
+use Rattle.lists.specs.Seen.{Seen, over, element, seenIn}
+use Rattle.lists.proofs.Reading.{reading, list-start, list-over, list-at}
 use Rattle.lists.proofs.Turns as list-turns
 use Rattle.extents.proofs.Verdicts.{le-or-gt}
 use Rattle.extents.specs.Verdict.{Verdict, fine, _>>_, atMost}
@@ -35,7 +34,7 @@ use Rattle.extents.specs.declared.deciding.Judged.{Judged}
 use Rattle.streams.specs.Streams.{settledTold}
 use Rattle.streams.specs.declared.settle.Settled.{Settled}
 use Rattle.contents.specs.Whole.{settledWhole}
-use Rattle.contents.specs.Inner.{apartAfter, apartOf, wholeVerdict, wholeOver, wholeBy}
+use Rattle.contents.specs.Inner.{apartAfter, apartOf, wholeVerdict, wholeOver, wholeFrom, wholeBy}
 use Rattle.contents.proofs.Plain.{whole-is}
 
 module _ (r : Ruling) (last e : Extent) where
@@ -74,25 +73,23 @@ unfolding ordering inOrder
 ordering-end (got tt) last = refl
 ordering-end (no w) last = refl
 
-module _ (b : List ℕ) (q : Search) (s : Step) where
-  pub apart-start : (n : ℕ) (last : Extent) → last ≡ record { logical = 0; len = 0; «phys_block» = 0 } → runOf b q s ≡ scanOf b q n
-      → reading (extentAt (q .reader) b) (ordering fine last) (runOf b q s) ≡ (onto (listOf (extentAt (q .reader) b) (scanOf b q n)) λ es t. after t (apart es))
-  unfolding ordering
-  apart-start n last h e = rw h (list-start (extentAt (q .reader) b) (ordering fine (record { logical = 0; len = 0; «phys_block» = 0 })) b q s n e)
+pub apart-start : (g : Place → Answer Extent) (n : Run) (last : Extent) → last ≡ record { logical = 0; len = 0; «phys_block» = 0 }
+    → reading g (ordering fine last) n ≡ (onto (listOf g n) λ es t. after t (apart es))
+unfolding ordering
+apart-start g n last h = rw h (list-start g (ordering fine (record { logical = 0; len = 0; «phys_block» = 0 })) n)
 
-  module _ (v : Verdict) (last : Extent) (whole : Counted (Unit {0})) (inv : reading (extentAt (q .reader) b) (ordering v last) (runOf b q s) ≡ whole) where
-    pub apart-end : s .found ≡ End → after (s .nodes) v ≡ whole
-    apart-end e = ap (after (s .nodes)) (sym (ordering-end v last)) ∙ list-end (extentAt (q .reader) b) (ordering v last) b q s whole inv e
+module _ (g : Place → Answer Extent) (b : List ℕ) (q : Search) (s : Step) (i : ℕ) (x : Seen Extent) (t : x ≡ seenIn g (inStep b q (s .reached) i))
+    (v : Verdict) (last : Extent) (whole : Counted (Unit {0})) (inv : reading g (ordering v last) (runAt b q s i) ≡ whole) where
+  pub apart-end : x ≡ over → after (s .nodes) v ≡ whole
+  apart-end e = ap (after (s .nodes)) (sym (ordering-end v last)) ∙ list-over g b q s i x t (ordering v last) whole inv e
 
-    pub apart-next : (t : Step) (z : Verdict) (p : Place) (r : ExtentRead) (e : Extent) → s .found ≡ At p → extentTold r ≡ extentAt (q .reader) b p → r ≡ ExtentRead.Got e
-        → z ≡ apartAfter v last e → runOf b q t ≡ left b q (s .cursor) (s .nodes) → reading (extentAt (q .reader) b) (ordering z e) (runOf b q t) ≡ whole
-    apart-next t z p r e f h g k u =
-        list-next (extentAt (q .reader) b) (ordering v last) b q s whole inv p f (ordering z e) e t (list-turns.extent-was r (extentAt (q .reader) b p) h e g) (ordering-next v z last e k) u
+  pub apart-next : (z : Verdict) (e : Extent) (a : ℕ) → x ≡ element e a → z ≡ apartAfter v last e → reading g (ordering z e) (runAt b q s a) ≡ whole
+  apart-next z e a h k = list-at g b q s i x t (ordering v last) whole inv (ordering z e) e a h (ordering-next v z last e k)
 
-pub apart-done : (b : List ℕ) (q : Search) (s n : ℕ) (x : Ruling) (r : Settled) → r ≡ record { ruling = x; nodes = n }
-    → after n (ruled x) ≡ (onto (listOf (extentAt (q .reader) b) (scanOf b q s)) λ es t. after t (apart es)) → settledTold r ≡ apartOf b q s
+pub apart-done : (b : List ℕ) (q : Search) (m : Run) (n : ℕ) (x : Ruling) (r : Settled) → r ≡ record { ruling = x; nodes = n }
+    → after n (ruled x) ≡ (onto (listOf (extentAt (q .reader) b) m) λ es t. after t (apart es)) → settledTold r ≡ apartOf b q m
 unfolding apartOf
-apart-done b q s n x r h g = rw h g
+apart-done b q m n x r h g = rw h g
 
 -- two tests of one list, one after the other
 module _ (n : ℕ) (f g : List Extent → Verdict) where
@@ -110,27 +107,34 @@ module _ (n : ℕ) (f g : List Extent → Verdict) where
       rw w u
   then-second (no e) m k v h u = u
 
-module _ (b : List ℕ) (q : Search) (size s : ℕ) (a : Settled) (p : settledTold a ≡ apartOf b q s) (r : Settled) where
+module _ (b : List ℕ) (q : Search) (size : ℕ) (s : Run) (a : Settled) (p : settledTold a ≡ apartOf b q s) (r : Settled) where
   pub whole-no : (w : Refusal) → a .ruling ≡ Ruling.No w → r ≡ record { ruling = Ruling.No w; nodes = a .nodes } → settledTold r ≡ wholeOver b q size s
   unfolding apartOf wholeOver wholeVerdict
   whole-no w h e =
       let k : after (a .nodes) (no w) ≡ settledTold a = ap (λ (x : Ruling). after (a .nodes) (ruled x)) (sym h) in
       ap settledTold e
-      ∙ first-no (listOf (extentAt (q .reader) b) (scanOf b q s) .nodes) apart (judgeOf (diskOf (q .reader) b) 0 size) (listOf (extentAt (q .reader) b) (scanOf b q s) .answer) (a .nodes) w (k ∙ p)
+      ∙ first-no (listOf (extentAt (q .reader) b) s .nodes) apart (judgeOf (diskOf (q .reader) b) 0 size) (listOf (extentAt (q .reader) b) s .answer) (a .nodes) w (k ∙ p)
 
   pub whole-judged : (j : Judged) (x : Ruling) → a .ruling ≡ Ruling.Fine → judgedTold b q j ≡ judgedOf b q 0 size s → x ≡ j .ruling → r ≡ record { ruling = x; nodes = j .nodes } → settledTold r ≡ wholeOver b q size s
   unfolding apartOf wholeOver wholeVerdict
   whole-judged j x h d y e =
       let k : after (a .nodes) fine ≡ settledTold a = ap (λ (z : Ruling). after (a .nodes) (ruled z)) (sym h) in
       ap settledTold e ∙ ap (λ (z : Ruling). after (j .nodes) (ruled z)) y
-      ∙ then-second (listOf (extentAt (q .reader) b) (scanOf b q s) .nodes) apart (judgeOf (diskOf (q .reader) b) 0 size) (listOf (extentAt (q .reader) b) (scanOf b q s) .answer) (a .nodes) (j .nodes) (ruled (j .ruling)) (k ∙ p) (told-decided b q 0 size s j d .verdict)
+      ∙ then-second (listOf (extentAt (q .reader) b) s .nodes) apart (judgeOf (diskOf (q .reader) b) 0 size) (listOf (extentAt (q .reader) b) s .answer) (a .nodes) (j .nodes) (ruled (j .ruling)) (k ∙ p) (told-decided b q 0 size s j d .verdict)
 
-pub whole-done : (b : List ℕ) (v : Volume) (i : Inode) (s size : ℕ) (q : Search) (r : Settled) → q ≡ searchOf v (i .ids .«private_id») 8 → size ≡ sizeOf i → settledTold r ≡ wholeOver b q size s → settledTold r ≡ settledWhole b v i s
+pub whole-done : (b : List ℕ) (v : Volume) (i : Inode) (size : ℕ) (q : Search) (t : Step) (r : Settled) → q ≡ searchOf v (i .ids .«private_id») 8 → size ≡ sizeOf i
+    → settledTold r ≡ wholeOver b q size (runAt b q t (t .from)) → settledTold r ≡ wholeFrom b v i (runAt b (searchOf v (i .ids .«private_id») 8) t (t .from))
+unfolding wholeFrom
+whole-done b v i size q t r e h g = rw (e, h) at g
+
+-- where the step begins the file's extents
+pub whole-begun : (b : List ℕ) (v : Volume) (i : Inode) (s : ℕ) (q : Search) (t : Step) (r : Settled) → q ≡ searchOf v (i .ids .«private_id») 8 → Begins b q t (scanOf b q s)
+    → settledTold r ≡ wholeFrom b v i (runAt b (searchOf v (i .ids .«private_id») 8) t (t .from)) → settledTold r ≡ settledWhole b v i s
 unfolding wholeBy
-whole-done b v i s size q r e h g = (rw (e, h) at g) ∙ sym (whole-is b v i s)
+whole-begun b v i s q t r e h g = (rw (rw e at (h .run)) at g) ∙ sym (whole-is b v i s)
 
 pub ruleset all = (list-turns.turns, apart-no, apart-before, apart-within, apart-fine)
 
-pub ruleset aparts = (list-turns.turns, apart-start, apart-end, apart-done)
+pub ruleset aparts = (list-turns.turns, apart-start, apart-end, apart-next, apart-done)
 
 pub ruleset wholes = (list-turns.turns, whole-no, whole-judged, whole-done)

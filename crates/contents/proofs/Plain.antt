@@ -25,7 +25,7 @@ use Rattle.extents.proofs.Verdicts.{le-or-gt, assoc}
 use Rattle.contents.proofs.AgreeLaws.{all-poured}
 use Rattle.streams.proofs.Contents.{run-poured}
 use Rattle.contents.specs.Whole.{settledWhole}
-use Rattle.contents.specs.Inner.{wholeVerdict, wholeOver, wholeBy}
+use Rattle.contents.specs.Inner.{wholeVerdict, wholeOver, wholeFrom, wholeBy}
 
 module _ (d : Disk) (es : List Extent) where
   decide-none : (xs : List Extent) → decide d 0 0 xs ≡ fine
@@ -90,13 +90,13 @@ whole-from d size n (got es) pos = rw (all-settled d es size pos) (of (wholeVerd
 whole-from d size n (no w) pos = refl
 
 pub whole-is : (b : List ℕ) (v : Volume) (i : Inode) (s : ℕ) → settledWhole b v i s ≡ wholeBy b v i s
-unfolding settledWhole readPlain wholeBy wholeOver extentsOf
+unfolding settledWhole readPlain wholeBy wholeFrom wholeOver extentsOf
 whole-is b v i s =
     whole-from (diskOf (v .reader) b) (sizeOf i) (listOf (extentAt (v .reader) b) (scanOf b (searchOf v (i .ids .«private_id») 8) s) .nodes) (listOf (extentAt (v .reader) b) (scanOf b (searchOf v (i .ids .«private_id») 8) s) .answer) (omega arith)
 
 pub plain-settled : (b : List ℕ) (v : Volume) (i : Inode) (s : ℕ)
     → readPlain b v i s ≡ (onto (settledWhole b v i s) λ u t. after t (got (streamBytes b v (i .ids .«private_id») (sizeOf i) s)))
-unfolding readPlain wholeBy wholeOver streamBytes extentsOf
+unfolding readPlain wholeBy wholeFrom wholeOver streamBytes extentsOf
 plain-settled b v i s =
     rw (whole-is b v i s)
     (settled-as (diskOf (v .reader) b) (sizeOf i) (listOf (extentAt (v .reader) b) (scanOf b (searchOf v (i .ids .«private_id») 8) s) .nodes) (listOf (extentAt (v .reader) b) (scanOf b (searchOf v (i .ids .«private_id») 8) s) .answer) _ (omega arith)

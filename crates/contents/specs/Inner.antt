@@ -4,7 +4,7 @@ use Prim.Native.Nat.{ℕ}
 use mathlib.Core.List.{List}
 use Rattle.error.specs.declared.Refusal.the-variants.{Corrupt}
 use Rattle.lookup.specs.Counted.{Counted, after, onto}
-use Rattle.btree.specs.Scan.{scanOf}
+use Rattle.btree.specs.Scan.{Run, scanOf}
 use Rattle.btree.specs.declared.entries.Search.{Search}
 use Rattle.volume.specs.declared.Volume.{Volume}
 use Rattle.records.specs.Extent.{extentAt}
@@ -20,16 +20,20 @@ use Rattle.files.specs.File.{sizeOf}
 abbrev pub apartAfter : Verdict → Extent → Extent → Verdict
 apartAfter v last e = v >> atMost (end last) (e .logical) Corrupt fine
 
--- no extent of a search starts before its predecessor's end
-unfoldable pub apartOf : List ℕ → Search → ℕ → Counted (Unit {0})
-apartOf b q s = onto (listOf (extentAt (q .reader) b) (scanOf b q s)) λ es t. after t (apart es)
+-- no extent of a run starts before its predecessor's end
+unfoldable pub apartOf : List ℕ → Search → Run → Counted (Unit {0})
+apartOf b q r = onto (listOf (extentAt (q .reader) b) r) λ es t. after t (apart es)
 
 -- what the whole read of a file of that size refuses
 unfoldable pub wholeVerdict : Disk → ℕ → List Extent → Verdict
 wholeVerdict d size es = apart es >> judgeOf d 0 size es
 
-unfoldable pub wholeOver : List ℕ → Search → ℕ → ℕ → Counted (Unit {0})
-wholeOver b q size s = onto (listOf (extentAt (q .reader) b) (scanOf b q s)) λ es t. after t (wholeVerdict (diskOf (q .reader) b) size es)
+unfoldable pub wholeOver : List ℕ → Search → ℕ → Run → Counted (Unit {0})
+wholeOver b q size r = onto (listOf (extentAt (q .reader) b) r) λ es t. after t (wholeVerdict (diskOf (q .reader) b) size es)
+
+-- the same of a file's extents
+unfoldable pub wholeFrom : List ℕ → Volume → Inode → Run → Counted (Unit {0})
+wholeFrom b v i r = wholeOver b (searchOf v (i .ids .«private_id») 8) (sizeOf i) r
 
 unfoldable pub wholeBy : List ℕ → Volume → Inode → ℕ → Counted (Unit {0})
-wholeBy b v i s = wholeOver b (searchOf v (i .ids .«private_id») 8) (sizeOf i) s
+wholeBy b v i s = wholeFrom b v i (scanOf b (searchOf v (i .ids .«private_id») 8) s)

@@ -1,37 +1,66 @@
--- What is left of a scan behind a cursor: for each level a node and the entry at which it goes on. Document 01, btree.rs, `scan`.
--- A reader of a caller needs no more of it than this: the run of `first` is the whole scan, and that of `next` is what was left.
-use Prim.Native.Nat.{ℕ, zero, suc, _+_, _-_}
+-- What is left of a scan from an entry of a leaf on: the leaf, and above it for each level a node and the entry at which it goes on.
+-- Document 01, btree.rs, `scan`. A reader of a caller needs no more of it than this: `first` begins the run that is the whole scan, `next` the
+-- one that is left behind a leaf.
+use Prim.Native.Nat.{ℕ, zero, suc, _+_, _-_, min}
+use mathlib.Core.Path.{_≡_}
 use mathlib.Core.List.{List}
 use lib.ListN.{getD}
-use Rattle.btree.specs.Scan.{Run, more, end, refused, Tail}
-use Rattle.btree.specs.Inner.{walk}
+use Rattle.error.specs.Answer.{Answer, got, no, ifEq}
+use Rattle.obj.specs.Block.{blockOf}
+use Rattle.node.specs.Node.{nodeOf}
+use Rattle.node.specs.declared.layout.Node.{Node}
+use Rattle.btree.specs.Scan.{Run, end, refused, Tail}
+use Rattle.btree.specs.Inner.{leafFrom, inNode, walk}
 use Rattle.btree.specs.declared.entries.Search.{Search}
-use Rattle.btree.specs.declared.entries.Found.{Found}
-use Rattle.btree.specs.declared.entries.Found.the-variants as found
-use Rattle.cursor.specs.declared.Frame.{Frame}
-use Rattle.cursor.specs.declared.Cursor.{Cursor}
-use Rattle.cursor.specs.declared.Step.{Step}
+use Rattle.btree.specs.declared.leaf.InLeaf.{InLeaf}
+use Rattle.btree.specs.declared.leaf.InLeaf.the-variants as leaf
+use Rattle.cursor.specs.declared.path.Mark.{Mark}
+use Rattle.cursor.specs.declared.path.Path.{Path}
+use Rattle.cursor.specs.declared.steps.Reached.{Reached}
+use Rattle.cursor.specs.declared.steps.Reached.the-variants.{Leaf, End, No}
+use Rattle.cursor.specs.declared.steps.Step.{Step}
 
--- a level at which nothing is left; document 01, btree.rs, "at most 33 nodes": levels 0 to 32
-abbrev pub noFrame : Frame
-noFrame = record { node = record { block = 0; toc = 0; keys = 0; vals = 0; nkeys = 0; flags = 0; level = 0 }; next = 0 }
+-- document 01, btree.rs, "at most 33 nodes": levels 0 to 32
+abbrev pub topOf : Search → ℕ
+topOf q = min (q .root .level) 32
+
+-- the node of a level on the path: the root, or what its block holds
+unfoldable pub nodeOn : List ℕ → Search → ℕ → ℕ → Answer Node
+nodeOn b q level block = ifEq level (q .root .level) (got (q .root)) (nodeOf block (blockOf (q .reader) b block))
+
+abbrev pub noMark : Mark
+noMark = record { block = 0; next = 0 }
+
+abbrev pub goOn : List ℕ → Search → ℕ → Answer Node → ℕ → Tail → Tail
+goOn b q level (got m) i k = walk b q level m i k
+goOn b q level (no e) i k = refused e
 
 -- what is left of n levels from a level on
-unfoldable pub levels : List ℕ → Search → List Frame → ℕ → ℕ → Tail
-levels b q fs zero level = end
-levels b q fs (suc n) level =
-    walk b q level (getD fs level noFrame .node) (getD fs level noFrame .next) (levels b q fs n (level + 1))
+unfoldable pub levels : List ℕ → Search → List Mark → ℕ → ℕ → Tail
+levels b q ms zero level = end
+levels b q ms (suc n) level =
+    goOn b q level (nodeOn b q level (getD ms level noMark .block)) (getD ms level noMark .next) (levels b q ms n (level + 1))
 
--- what is left of the scan, s nodes having been gone through
-unfoldable pub left : List ℕ → Search → Cursor → ℕ → Run
-left b q c s = levels b q (c .frames) (33 - c .low) (c .low) s
+-- what is left above a level
+unfoldable pub left : List ℕ → Search → Path → ℕ → Tail
+left b q c level = levels b q (c .marks) (topOf q - level) (level + 1)
 
--- what a step gives, where r is left after a record
-abbrev pub foundThen : Found → ℕ → Run → Run
-foundThen (found.At p) s r = more p s r
-foundThen found.End s r = end s
-foundThen (found.No e) s r = refused e s
+abbrev pub reachedRun : List ℕ → Search → Reached → ℕ → ℕ → Run → Run
+reachedRun b q (Leaf m) i s k = leafFrom b q m (m .nkeys - i) i s k
+reachedRun b q End i s k = end s
+reachedRun b q (No e) i s k = refused e s
 
--- the run that a step is the head of
-unfoldable pub runOf : List ℕ → Search → Step → Run
-runOf b q t = foundThen (t .found) (t .nodes) (left b q (t .cursor) (t .nodes))
+-- the run from a leaf's i-th entry on
+unfoldable pub runAt : List ℕ → Search → Step → ℕ → Run
+runAt b q t i = reachedRun b q (t .reached) i (t .nodes) (left b q (t .path) (t .level) (t .nodes))
+
+-- the first record of it that stands in the leaf
+abbrev pub inStep : List ℕ → Search → Reached → ℕ → InLeaf
+inStep b q (Leaf m) i = inNode b q m i
+inStep b q End i = leaf.End
+inStep b q (No e) i = leaf.No e
+
+-- t begins a run: at a record, or where the run ends
+pub record Begins (b : List ℕ) (q : Search) (t : Step) (whole : Run) : Type 0 where
+  pub run : runAt b q t (t .from) ≡ whole
+  pub there : inStep b q (t .reached) (t .from) ≡ leaf.Passed → ⊥

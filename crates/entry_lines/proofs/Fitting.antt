@@ -3,7 +3,6 @@ use Prim.Native.Nat.{ℕ, suc, _+_, _-_, _≤_, _<_}
 use mathlib.Core.Path.{_≡_, refl, sym, ap, _∙_}
 use mathlib.Core.List.{List, [], _∷_, _++_}
 use mathlib.Core.Logic.{_⊎_, inl, inr}
-use mathlib.Core.Option.{none, some}
 use native.Mathlib.Nat.{add-zero}
 use native.Mathlib.Omega.{arith}
 use borrow.Author.Needs.{needs}
@@ -19,23 +18,18 @@ use Rattle.text.specs.declared.Position.{Position}
 use Rattle.text.specs.declared.Position.the-variants.{At, No}
 use Rattle.text.proofs.Writing.{puts-append}
 use Rattle.obj.specs.declared.reader.Reader.{Reader}
-use Rattle.btree.specs.Scan.{scanOf}
 use Rattle.btree.specs.declared.entries.Search.{Search}
-use Rattle.btree.specs.declared.entries.Place.{Place}
-use Rattle.btree.specs.declared.entries.Found.{Found}
-use Rattle.btree.specs.declared.entries.Found.the-variants as found
-use Rattle.btree.proofs.Places.{size}
-use Rattle.cursor.specs.Left.{left, runOf}
-use Rattle.cursor.specs.declared.Step.{Step}
-use Rattle.cursor.proofs.Through.{run-at}
+use Rattle.cursor.specs.Left.{left, runAt, inStep, Begins}
+use Rattle.cursor.specs.declared.steps.Step.{Step}
 use Rattle.volume.specs.declared.Volume.{Volume}
 use Rattle.records.specs.Directory.{entryAt}
 use Rattle.records.specs.declared.directory.Entry.{Entry}
 use Rattle.lists.specs.Lists.{searchOf}
 use Rattle.extents.proofs.Verdicts.{le-or-gt}
-use Rattle.forms.specs.Inner.{readThen, readable, read?, seenAt, entrySeen}
-use Rattle.forms.specs.declared.seen.SeenEntry.{SeenEntry}
-use Rattle.forms.proofs.Walking.{seen-over, seen-one, seen-less}
+use Rattle.lists.specs.Inner.{readable}
+use Rattle.lists.specs.Seen.{Seen, over, passed, element, refusal, seenIn}
+use Rattle.lists.proofs.Reading.{less-at, less-passed, readable-over, readable-no, readable-at, readable-passed}
+use Rattle.lists.proofs.Turns.{seens}
 use Rattle.lines.specs.Shown.{entryShown}
 use Rattle.lines.specs.Lines.{entryLine}
 use Rattle.calls.specs.Filled.{Filled, filled, filledAt}
@@ -139,81 +133,65 @@ module _ (rd : Reader) (image : List ℕ) (room n : ℕ) (b : List ℕ) where
         ∙ puts-append room line (fitting (room - n - length line) (linesOf rd image es)) (at b n)
         ∙ rw (fits room line b n h, q)
 
--- an element that is seen at a step is the first of those that are left
-seen-some : {A : Type 0} (f : Place → Answer A) (b : List ℕ) (q : Search) (s : Step) (x : A) → seenAt f (s .found) ≡ some x → (xs : List A) × (readable f (runOf b q s) ≡ x ∷ xs)
-unfolding readable
-seen-some {A} f b q s x e = of (s .found) refl e
-  where
-    read : (a : Answer A) (xs : List A) → read? a ≡ some x → readThen a xs ≡ x ∷ xs
-    read (got y) xs h = let k : y ≡ x = cc in rw k
-    read (no w) xs h = absurd (let z : _≡_ {A = ℕ} 0 1 = cc in omega arith)
-
-    of : (y : Found) → s .found ≡ y → seenAt f y ≡ some x → (xs : List A) × (readable f (runOf b q s) ≡ x ∷ xs)
-    of (found.At p) k h = (readable f (left b q (s .cursor) (s .nodes)), rw (run-at b q s p k) (read (f p) _ h))
-    of found.End k h = absurd (let z : _≡_ {A = ℕ} 0 1 = cc in omega arith)
-    of (found.No w) k h = absurd (let z : _≡_ {A = ℕ} 0 1 = cc in omega arith)
-
 -- the turns of the loop
-module _ (rd : Reader) (image : List ℕ) (room : ℕ) (q : Search) (s : Step) where
-  pub lines-start : (place nodes : ℕ) (b : List ℕ) → runOf image q s ≡ scanOf image q nodes
-      → writes rd image room 0 place (readable (entryAt rd image) (runOf image q s)) b ≡ puts room (fitting room (linesOf rd image (drop place (readable (entryAt rd image) (scanOf image q nodes))))) (at b 0)
+module _ (rd : Reader) (image : List ℕ) (room : ℕ) (q : Search) (s : Step) (i : ℕ) where
+  pub lines-start : (place : ℕ) (b : List ℕ) → writes rd image room 0 place (readable (entryAt (q .reader) image) (runAt image q s i)) b ≡ puts room (fitting room (linesOf rd image (drop place (readable (entryAt (q .reader) image) (runAt image q s i))))) (at b 0)
   unfolding writes
-  lines-start place nodes b h = let z : room - 0 ≡ room = omega arith in rw (h, z)
+  lines-start place b = let z : room - 0 ≡ room = omega arith in rw z
 
-  module _ (n left′ : ℕ) (b : List ℕ) (w : Output) (inv : writes rd image room n left′ (readable (entryAt rd image) (runOf image q s)) b ≡ w) (r : SeenEntry)
-      (l : entrySeen r ≡ seenAt (entryAt rd image) (s .found)) where
-    pub lines-over : r ≡ SeenEntry.Over → at b n ≡ w
-    lines-over e =
-        let k : seenAt (entryAt rd image) (s .found) ≡ none = sym l ∙ ap entrySeen e in
-        sym (writes-none rd image room n b left′) ∙ ap (λ (es : List Entry). writes rd image room n left′ es b) (sym (seen-over (entryAt rd image) image q s k)) ∙ inv
+  module _ (n left′ : ℕ) (b : List ℕ) (w : Output) (inv : writes rd image room n left′ (readable (entryAt (q .reader) image) (runAt image q s i)) b ≡ w) (r : Seen Entry)
+      (l : r ≡ seenIn (entryAt (q .reader) image) (inStep image q (s .reached) i)) where
+    none-left : readable (entryAt (q .reader) image) (runAt image q s i) ≡ [] → at b n ≡ w
+    none-left e = sym (writes-none rd image room n b left′) ∙ ap (λ (es : List Entry). writes rd image room n left′ es b) (sym e) ∙ inv
 
-    module _ (e : Entry) (h : r ≡ SeenEntry.At e) where
-      here : seenAt (entryAt rd image) (s .found) ≡ some e
-      here = sym l ∙ ap entrySeen h
+    pub lines-over : r ≡ over → at b n ≡ w
+    lines-over e = none-left (readable-over (entryAt (q .reader) image) image q s i r l e)
 
-      pub lines-less : (t : Step) → runOf image q t ≡ left image q (s .cursor) (s .nodes) → size (runOf image q t) < size (runOf image q s)
-      lines-less t g = seen-less (entryAt rd image) image q s e t here g
+    pub lines-no : (z : Refusal) → r ≡ refusal z → at b n ≡ w
+    lines-no z e = none-left (readable-no (entryAt (q .reader) image) image q s i r l z e)
 
-      module _ (g : n ≤ room) (x : List ℕ) where
-        onward : (t : Step) → runOf image q t ≡ left image q (s .cursor) (s .nodes) → writes rd image room n left′ (e ∷ readable (entryAt rd image) (runOf image q t)) b ≡ w
-        onward t u = ap (λ (es : List Entry). writes rd image room n left′ es b) (sym (seen-one (entryAt rd image) image q s e t here u)) ∙ inv
+    pub lines-passed : (t : Step) → r ≡ passed → Begins image q t (left image q (s .path) (s .level) (s .nodes)) → writes rd image room n left′ (readable (entryAt (q .reader) image) (runAt image q t (t .from))) b ≡ w
+    lines-passed t e h = rw (readable-passed (entryAt (q .reader) image) image q s i r l t e h) inv
 
-        module _ (p : Position) (f : filledAt p x ≡ filledFrom room n (lineAt rd image left′ e) b) where
-          pub lines-within : (m : ℕ) → p ≡ At m → m ≤ room
-          lines-within m d = let y = from-got room n (lineAt rd image left′ e) b x m (ap (λ (u : Position). filledAt u x) (sym d) ∙ f) in omega arith
+    module _ (e : Entry) (a : ℕ) (h : r ≡ element e a) where
+      abbrev es : List Entry
+      es = readable (entryAt (q .reader) image) (runAt image q s a)
 
-          pub lines-next : (m k : ℕ) (t : Step) → p ≡ At m → k ≡ left′ - 1 → runOf image q t ≡ left image q (s .cursor) (s .nodes)
-              → writes rd image room m k (readable (entryAt rd image) (runOf image q t)) x ≡ w
-          lines-next m k t d i u = of (le-or-gt left′ 0) (from-got room n (lineAt rd image left′ e) b x m (ap (λ (u : Position). filledAt u x) (sym d) ∙ f))
-            where
-              es : List Entry
-              es = readable (entryAt rd image) (runOf image q t)
+      onward : writes rd image room n left′ (e ∷ es) b ≡ w
+      onward = ap (λ (x : List Entry). writes rd image room n left′ x b) (sym (readable-at (entryAt (q .reader) image) image q s i r l e a h)) ∙ inv
 
-              of : (left′ ≤ 0) ⊎ (0 < left′) → (n + length (lineAt rd image left′ e) ≤ room) × ((m ≡ n + length (lineAt rd image left′ e)) × (x ≡ sets b n (lineAt rd image left′ e)))
-                  → writes rd image room m k es x ≡ w
-              of (inl d) y =
-                  let z : left′ ≡ 0 = omega arith in
-                  let y′ = rw (← line-here rd image left′ e d) at y in
-                  rw (y′ .1 .0, y′ .1 .1, i, z) (sym (writes-line rd image room n b e es (y′ .0)) ∙ (rw z at (onward t u)))
-              of (inr d) y =
-                  let y′ = rw (← line-later rd image left′ e d) at y in
-                  let a : m ≡ n = omega arith in
-                  rw (a, y′ .1 .1, i) (sym (writes-pass rd image room n b left′ e es d) ∙ onward t u)
+      module _ (g : n ≤ room) (x : List ℕ) (p : Position) (f : filledAt p x ≡ filledFrom room n (lineAt rd image left′ e) b) where
+        pub lines-within : (m : ℕ) → p ≡ At m → m ≤ room
+        lines-within m d = let y = from-got room n (lineAt rd image left′ e) b x m (ap (λ (u : Position). filledAt u x) (sym d) ∙ f) in omega arith
 
-          pub lines-full : (v : Refusal) → p ≡ No v → at x n ≡ w
-          lines-full v d = of (le-or-gt left′ 0) (from-no room n (lineAt rd image left′ e) b x v (ap (λ (u : Position). filledAt u x) (sym d) ∙ f)) (seen-some (entryAt rd image) image q s e here)
-            where
-              of : (left′ ≤ 0) ⊎ (0 < left′) → (room < n + length (lineAt rd image left′ e)) × (x ≡ b) → (es : List Entry) × (readable (entryAt rd image) (runOf image q s) ≡ e ∷ es) → at x n ≡ w
-              of (inl d) y c =
-                  let z : left′ ≡ 0 = omega arith in
-                  let y′ = rw (← line-here rd image left′ e d) at y in
-                  rw (y .1) (sym (writes-stop rd image room n b e (c .0) (y′ .0) g) ∙ (rw (c .1, z) at inv))
-              of (inr d) y c = let y′ = rw (← line-later rd image left′ e d) at y in absurd (omega arith)
+        pub lines-next : (m k : ℕ) → p ≡ At m → k ≡ left′ - 1 → writes rd image room m k (readable (entryAt (q .reader) image) (runAt image q s a)) x ≡ w
+        lines-next m k d i = of (le-or-gt left′ 0) (from-got room n (lineAt rd image left′ e) b x m (ap (λ (u : Position). filledAt u x) (sym d) ∙ f))
+          where
+            of : (left′ ≤ 0) ⊎ (0 < left′) → (n + length (lineAt rd image left′ e) ≤ room) × ((m ≡ n + length (lineAt rd image left′ e)) × (x ≡ sets b n (lineAt rd image left′ e)))
+                → writes rd image room m k es x ≡ w
+            of (inl d) y =
+                let z : left′ ≡ 0 = omega arith in
+                let y′ = rw (← line-here rd image left′ e d) at y in
+                rw (y′ .1 .0, y′ .1 .1, i, z) (sym (writes-line rd image room n b e es (y′ .0)) ∙ (rw z at onward))
+            of (inr d) y =
+                let y′ = rw (← line-later rd image left′ e d) at y in
+                let a : m ≡ n = omega arith in
+                rw (a, y′ .1 .1, i) (sym (writes-pass rd image room n b left′ e es d) ∙ onward)
 
-pub lines-done : (image : List ℕ) (v : Volume) (id place nodes room : ℕ) (q : Search) (b : List ℕ) (z : Output) → q ≡ searchOf v id 9
-    → z ≡ puts room (fitting room (linesOf (v .reader) image (drop place (readable (entryAt (v .reader) image) (scanOf image q nodes))))) (at b 0)
-    → z ≡ puts room (fitting room (linesOf (v .reader) image (drop place (readable (entryAt (v .reader) image) (scanOf image (searchOf v id 9) nodes))))) (at b 0)
-lines-done image v id place nodes room q b z e h = rw e at h
+        pub lines-full : (v : Refusal) → p ≡ No v → at x n ≡ w
+        lines-full v d = of (le-or-gt left′ 0) (from-no room n (lineAt rd image left′ e) b x v (ap (λ (u : Position). filledAt u x) (sym d) ∙ f))
+          where
+            of : (left′ ≤ 0) ⊎ (0 < left′) → (room < n + length (lineAt rd image left′ e)) × (x ≡ b) → at x n ≡ w
+            of (inl d) y =
+                let z : left′ ≡ 0 = omega arith in
+                let y′ = rw (← line-here rd image left′ e d) at y in
+                rw (y .1) (sym (writes-stop rd image room n b e es (y′ .0) g) ∙ (rw z at onward))
+            of (inr d) y = let y′ = rw (← line-later rd image left′ e d) at y in absurd (omega arith)
+
+pub lines-done : (image : List ℕ) (v : Volume) (id place room : ℕ) (q : Search) (s : Step) (b : List ℕ) (z : Output) → q ≡ searchOf v id 9
+    → z ≡ puts room (fitting room (linesOf (v .reader) image (drop place (readable (entryAt (q .reader) image) (runAt image q s (s .from)))))) (at b 0)
+    → z ≡ puts room (fitting room (linesOf (v .reader) image (drop place (readable (entryAt (v .reader) image) (runAt image (searchOf v id 9) s (s .from)))))) (at b 0)
+lines-done image v id place room q s b z e h = rw e at h
 
 -- the lines that fit lie within the room
 fitting-within : (room : ℕ) (ts : List (List ℕ)) → length (fitting room ts) ≤ room
@@ -235,4 +213,4 @@ fitting-written ts b l x n k e =
 
 pub ruleset passes = (needs, next-passed, next-short, next-written)
 
-pub ruleset walks = (needs, lines-start, lines-over, lines-full, lines-less, lines-within, lines-done)
+pub ruleset walks = (needs, seens, less-at, less-passed, lines-start, lines-over, lines-no, lines-passed, lines-full, lines-within, lines-done)

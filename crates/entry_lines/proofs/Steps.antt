@@ -18,17 +18,20 @@ use Rattle.text.specs.declared.Position.{Position}
 use Rattle.text.specs.declared.Position.the-variants.{At, No}
 use Rattle.text.proofs.Whole.{too-short, long-enough}
 use Rattle.obj.specs.declared.reader.Reader.{Reader}
-use Rattle.btree.specs.Scan.{scanOf}
+use Rattle.btree.specs.Scan.{Run, scanOf}
+use Rattle.btree.specs.declared.entries.Search.{Search}
+use Rattle.cursor.specs.Left.{runAt, Begins}
+use Rattle.cursor.specs.declared.steps.Step.{Step}
 use Rattle.volume.specs.declared.Volume.{Volume}
 use Rattle.records.specs.Directory.{entryAt}
 use Rattle.records.specs.declared.directory.Entry.{Entry}
-use Rattle.lists.specs.Lists.{searchOf, elementAt, placed, entriesOf}
+use Rattle.lists.specs.Lists.{searchOf, listOf, elementAt, placed, entriesOf}
 use Rattle.lists.specs.Told.{entryPlaced, entryFound}
 use Rattle.lists.specs.declared.entries.EntryFound.{EntryFound}
 use Rattle.lists.specs.declared.entries.EntryAt.{EntryAt}
 use Rattle.extents.proofs.Verdicts.{le-or-gt}
-use Rattle.forms.specs.Inner.{readable}
-use Rattle.forms.proofs.Walking.{listed}
+use Rattle.lists.specs.Inner.{readable}
+use Rattle.lists.proofs.Reading.{listed}
 use Rattle.lines.specs.Shown.{entryShown}
 use Rattle.lines.specs.Lines.{entryLine}
 use Rattle.calls.specs.Filled.{Filled, filled, filledBy, filledAt}
@@ -68,7 +71,12 @@ drop-at k [] x h = absurd (let z : _≡_ {A = ℕ} 0 1 = cc in omega arith)
 drop-at zero (y ∷ xs) x h = (xs, let q : y ≡ x = cc in rw q)
 drop-at (suc k) (y ∷ xs) x h = drop-at k xs x h
 
-module _ (image : List ℕ) (v : Volume) (id place s : ℕ) (b : List ℕ) (f : EntryFound) (p : entryFound f ≡ placed place (entriesOf image v id s)) where
+-- the entries are those from the first step on
+module _ (image : List ℕ) (v : Volume) (id place s : ℕ) (b : List ℕ) (q₀ : Search) (t₀ : Step) (k₀ : q₀ ≡ searchOf v id 9) (g₀ : Begins image q₀ t₀ (scanOf image q₀ s)) (f : EntryFound)
+    (p : entryFound f ≡ placed place (listOf (entryAt (v .reader) image) (runAt image (searchOf v id 9) t₀ (t₀ .from)))) where
+  begun : runAt image (searchOf v id 9) t₀ (t₀ .from) ≡ scanOf image (searchOf v id 9) s
+  begun = rw k₀ at (g₀ .run)
+
   abbrev by : Answer (List Entry) → Filled
   by a = filledBy ((onto (after (entriesOf image v id s .nodes) a) λ es t. after t (fittingSome (length b) (linesOf (v .reader) image (drop place es)))) .answer) b
 
@@ -76,7 +84,8 @@ module _ (image : List ℕ) (v : Volume) (id place s : ℕ) (b : List ℕ) (f : 
   at-place a = placed place (after (entriesOf image v id s .nodes) a) .answer
 
   told : entryPlaced (f .entry) ≡ at-place (entriesOf image v id s .answer)
-  told = ap (λ (c : Counted (Option Entry)). c .answer) p
+  unfolding entriesOf
+  told = ap (λ (c : Counted (Option Entry)). c .answer) (p ∙ ap (λ (r : Run). placed place (listOf (entryAt (v .reader) image) r)) begun)
 
   pub entries-past : f .entry ≡ EntryAt.Nothing → filledAt (At 0) b ≡ filledBy (entriesOn image v id place (length b) s .answer) b
   unfolding entriesOn fittingSome
@@ -95,7 +104,7 @@ module _ (image : List ℕ) (v : Volume) (id place s : ℕ) (b : List ℕ) (f : 
       of (no x) h = let d : w ≡ x = cc in rw d
 
   pub entries-here : (e : Entry) (z : Filled) → f .entry ≡ EntryAt.At e
-      → z ≡ entriesFrom (v .reader) image e (drop place (readable (entryAt (v .reader) image) (scanOf image (searchOf v id 9) s))) b → z ≡ filledBy (entriesOn image v id place (length b) s .answer) b
+      → z ≡ entriesFrom (v .reader) image e (drop place (readable (entryAt (v .reader) image) (runAt image (searchOf v id 9) t₀ (t₀ .from)))) b → z ≡ filledBy (entriesOn image v id place (length b) s .answer) b
   unfolding entriesOn entriesOf entriesFrom fittingSome
   entries-here e z q h = of (entriesOf image v id s .answer) refl (ap entryPlaced (sym q) ∙ told)
     where
@@ -118,7 +127,7 @@ module _ (image : List ℕ) (v : Volume) (id place s : ℕ) (b : List ℕ) (f : 
       of (got es) k g =
           let d : elementAt place es ≡ some e = cc in
           let y = drop-at place es e d in
-          let u : readable (entryAt (v .reader) image) (scanOf image (searchOf v id 9) s) ≡ es = listed (entryAt (v .reader) image) (scanOf image (searchOf v id 9) s) es k in
+          let u : readable (entryAt (v .reader) image) (runAt image (searchOf v id 9) t₀ (t₀ .from)) ≡ es = ap (readable (entryAt (v .reader) image)) begun ∙ listed (entryAt (v .reader) image) (scanOf image (searchOf v id 9) s) es k in
           h ∙ rw (u, y .1) (both (y .0))
       of (no w) k g = absurd (let z : _≡_ {A = ℕ} 0 1 = cc in omega arith)
 

@@ -1,11 +1,12 @@
 // The lines of a directory's entries from a place on, as many as fit.
+use cursor::Step;
 use cursor::first;
 use cursor::next;
-use forms::SeenEntry;
-use forms::look_entry;
 use lines::put_entry_line;
 use lists::EntryAt;
-use lists::entry_at;
+use lists::EntryIn;
+use lists::entry_from;
+use lists::entry_in;
 use lists::fewer;
 use lists::search;
 use obj::Reader;
@@ -18,10 +19,10 @@ ghost use mathlib.Core.Path.{_≡_};
 ghost use lib.ListN.{length, drop};
 ghost use Prim.Native.Nat.{_≤_};
 ghost use Rattle.text.specs.Output.{at, puts};
-ghost use Rattle.btree.specs.Scan.{scanOf};
+ghost use Rattle.cursor.specs.Left.{runAt};
 ghost use Rattle.records.specs.Directory.{entryAt};
 ghost use Rattle.lists.specs.Lists.{searchOf};
-ghost use Rattle.forms.specs.Inner.{readable};
+ghost use Rattle.lists.specs.Inner.{readable};
 ghost use Rattle.calls.specs.Filled.{filledAt, filledBy};
 ghost use Rattle.entry_lines.specs.Entries.{linesOf, fitting, entriesOn, entriesText};
 ghost use Rattle.entry_lines.specs.Inner.{lineAt, filledFrom, entriesFrom};
@@ -48,7 +49,7 @@ fn put_next(
     }
 }
 
-// How many bytes the lines that fit take.
+// How many bytes the lines that fit take, of the entries from a step on.
 fn put_entries(
     out: &mut [u8],
     room: usize,
@@ -56,26 +57,32 @@ fn put_entries(
     v: Volume,
     id: u64,
     place: u64,
-    nodes: u64,
+    start: Step,
 ) -> usize
-    ensures { λ r. ⌜ at (now (out .exit)) r ≡ puts room (fitting room (linesOf (v .reader) (now (image .entry)) (drop place (readable (entryAt (v .reader) (now (image .entry))) (scanOf (now (image .entry)) (searchOf v id 9) nodes))))) (at (now (out .entry)) 0) ⌝ }
+    ensures { λ r. ⌜ at (now (out .exit)) r ≡ puts room (fitting room (linesOf (v .reader) (now (image .entry)) (drop place (readable (entryAt (v .reader) (now (image .entry))) (runAt (now (image .entry)) (searchOf v id 9) start (start .from)))))) (at (now (out .entry)) 0) ⌝ }
 {
     let q = search(v, id, 9);
     let reader = v.reader;
     let mut n = 0;
     let mut left = place;
-    let mut s = first(image, q, nodes);
+    let mut s = start;
+    let mut i = s.from;
     loop {
-        let found = s.found;
-        match look_entry(image, reader, found) {
-            SeenEntry::Over => return n,
-            SeenEntry::At(e) => match put_next(out, room, n, image, reader, left, e) {
+        let at = s.reached;
+        match entry_in(image, q, at, i) {
+            EntryIn::Over => return n,
+            EntryIn::No(_) => return n,
+            EntryIn::Passed => {
+                let c = s.path;
+                s = next(image, q, c, s.level, s.nodes);
+                i = s.from;
+            }
+            EntryIn::At(e, after) => match put_next(out, room, n, image, reader, left, e) {
                 Position::No(_) => return n,
                 Position::At(m) => {
                     n = m;
                     left = fewer(left);
-                    let c = s.cursor;
-                    s = next(image, q, c, s.nodes);
+                    i = after;
                 }
             },
         }
@@ -89,16 +96,16 @@ fn entries_from(
     id: u64,
     place: u64,
     e: Entry,
-    nodes: u64,
+    start: Step,
     out: &mut [u8],
 ) -> Position
-    ensures { λ r. ⌜ filledAt r (now (out .exit)) ≡ entriesFrom (v .reader) (now (image .entry)) e (drop place (readable (entryAt (v .reader) (now (image .entry))) (scanOf (now (image .entry)) (searchOf v id 9) nodes))) (now (out .entry)) ⌝ }
+    ensures { λ r. ⌜ filledAt r (now (out .exit)) ≡ entriesFrom (v .reader) (now (image .entry)) e (drop place (readable (entryAt (v .reader) (now (image .entry))) (runAt (now (image .entry)) (searchOf v id 9) start (start .from)))) (now (out .entry)) ⌝ }
 {
     let room = out.len();
     let reader = v.reader;
     match put_entry_line(&mut out[..0], room, Position::At(0), image, reader, e) {
         Position::No(w) => Position::No(w),
-        Position::At(_) => { Position::At(put_entries(out, room, image, v, id, place, nodes)) }
+        Position::At(_) => { Position::At(put_entries(out, room, image, v, id, place, start)) }
     }
 }
 
@@ -106,11 +113,12 @@ fn entries_from(
 fn entries_on(image: &[u8], v: Volume, id: u64, place: u64, nodes: u64, out: &mut [u8]) -> Position
     ensures { λ r. ⌜ filledAt r (now (out .exit)) ≡ filledBy (entriesOn (now (image .entry)) v id place (length (now (out .entry))) nodes .answer) (now (out .entry)) ⌝ }
 {
-    let found = entry_at(image, v, id, place, nodes);
+    let start = first(image, search(v, id, 9), nodes);
+    let found = entry_from(image, v, id, place, start);
     let entry = found.entry;
     match entry {
         EntryAt::Nothing => Position::At(0),
-        EntryAt::At(e) => entries_from(image, v, id, place, e, nodes, out),
+        EntryAt::At(e) => entries_from(image, v, id, place, e, start, out),
         EntryAt::No(w) => Position::No(w),
     }
 }

@@ -10,17 +10,18 @@ use Rattle.error.specs.declared.Refusal.{Refusal}
 use Rattle.error.specs.declared.Refusal.the-variants.{Corrupt}
 use Rattle.error.proofs.Laws.{at-most, le-cases}
 use Rattle.lookup.specs.Counted.{Counted, after, from, onto}
-use Rattle.btree.specs.Scan.{scanOf}
+use Rattle.btree.specs.Scan.{Run}
 use Rattle.btree.specs.declared.entries.Search.{Search}
-use Rattle.cursor.specs.Left.{left, runOf}
-use Rattle.cursor.specs.declared.Step.{Step}
+use Rattle.cursor.specs.Left.{left, runAt, inStep, Begins}
+use Rattle.cursor.specs.declared.steps.Step.{Step}
 use Rattle.records.specs.Extent.{extentAt}
 use Rattle.records.specs.declared.extent.Extent.{Extent}
 use Rattle.lists.specs.Lists.{listOf}
-use Rattle.lists.proofs.Reading.{reading, list-start, list-end, list-next}
-use Rattle.extents.specs.Inner.{looked, extentsIn, judgeOf, OneMore, closing, judgedTold, judgedOf}
-use Rattle.extents.specs.declared.walk.Seen.{Seen}
-use Rattle.extents.specs.declared.walk.Seen.the-variants as seen
+use Rattle.lists.specs.Inner.{readable}
+use Rattle.lists.specs.Seen.{Seen, over, passed, element, refusal, seenIn}
+use Rattle.lists.proofs.Reading.{reading, listed, list-start, list-over, list-no, list-at, readable-over, readable-at, less-at, less-passed, run-on}
+use Rattle.lists.proofs.Turns.{seens}
+use Rattle.extents.specs.Inner.{judgeOf, OneMore, closing, judgedTold, judgedOf}
 use Rattle.extents.specs.Verdict.{Verdict, fine, _>>_}
 use Rattle.extents.specs.Ruling.{ruled}
 use Rattle.extents.specs.Extents.{diskOf, start, inOrder, seek, since}
@@ -29,14 +30,13 @@ use Rattle.extents.specs.declared.verdict.Ruling.the-variants.{Fine, No}
 use Rattle.extents.specs.declared.deciding.Judging.{Judging}
 use Rattle.extents.specs.declared.deciding.Judged.{Judged}
 use Rattle.extents.proofs.Verdicts.{went}
-use Rattle.extents.proofs.SeenLaws.{seen-over, seen-at, seen-no, seen-less, held-over, held-at, held-list}
 use Rattle.extents.proofs.ExtentLaws.{seek-takes, seek-stays}
 use Rattle.extents.proofs.JudgeLaws.{judging, judging-start, judging-end, judging-next, seek-past}
 
 -- what the pass answers, in two parts: the verdict, and where it is fine, a step from which on the extents are those since off
-pub record Decided (b : List ℕ) (q : Search) (off stop n : ℕ) (r : Judged) : Type 0 where
-  pub verdict : after (r .nodes) (ruled (r .ruling)) ≡ (onto (listOf (extentAt (q .reader) b) (scanOf b q n)) λ es t. after t (judgeOf (diskOf (q .reader) b) off stop es))
-  pub near : r .ruling ≡ Fine → extentsIn (extentAt (q .reader) b) (runOf b q (r .kept)) ≡ since off (extentsIn (extentAt (q .reader) b) (scanOf b q n))
+pub record Decided (b : List ℕ) (q : Search) (off stop : ℕ) (n : Run) (r : Judged) : Type 0 where
+  pub verdict : after (r .nodes) (ruled (r .ruling)) ≡ (onto (listOf (extentAt (q .reader) b) n) λ es t. after t (judgeOf (diskOf (q .reader) b) off stop es))
+  pub near : r .ruling ≡ Fine → readable (extentAt (q .reader) b) (runAt b q (r .kept) (r .from)) ≡ since off (readable (extentAt (q .reader) b) n)
 
 refused-first : {A : Type 0} (v : Verdict) (y : A) (w : Refusal) → (v >> got y) ≡ no w → v ≡ no w
 refused-first (got tt) y w e = absurd (let z : _≡_ {A = ℕ} 0 1 = cc in omega arith)
@@ -92,31 +92,31 @@ module _ (judge : List Extent → Verdict) (pick : List Extent → List Extent) 
         let u : got xs ≡ no w = ap (λ (u : Ruling). ruled u >> got xs) (sym f) ∙ y in
         absurd (let z : _≡_ {A = ℕ} 0 1 = cc in omega arith)
 
-module _ (b : List ℕ) (q : Search) (off stop n : ℕ) (r : Judged) where
-  -- the extents of the search, and their list
-  all-held : (es : List Extent) → listOf (extentAt (q .reader) b) (scanOf b q n) .answer ≡ got es → extentsIn (extentAt (q .reader) b) (scanOf b q n) ≡ es
-  all-held es h = held-list (extentAt (q .reader) b) (scanOf b q n) es h
+module _ (b : List ℕ) (q : Search) (off stop : ℕ) (n : Run) (r : Judged) where
+  -- the extents of the run, and their list
+  all-held : (es : List Extent) → listOf (extentAt (q .reader) b) n .answer ≡ got es → readable (extentAt (q .reader) b) n ≡ es
+  all-held es h = listed (extentAt (q .reader) b) n es h
 
   decided-told : Decided b q off stop n r → judgedTold b q r ≡ judgedOf b q off stop n
   unfolding judgedOf
   decided-told w =
-      part-whole (judgeOf (diskOf (q .reader) b) off stop) (since off) (r .nodes) (extentsIn (extentAt (q .reader) b) (runOf b q (r .kept))) (extentsIn (extentAt (q .reader) b) (scanOf b q n))
-      (listOf (extentAt (q .reader) b) (scanOf b q n) .nodes) (listOf (extentAt (q .reader) b) (scanOf b q n) .answer) (r .ruling) all-held (w .verdict) (w .near)
+      part-whole (judgeOf (diskOf (q .reader) b) off stop) (since off) (r .nodes) (readable (extentAt (q .reader) b) (runAt b q (r .kept) (r .from))) (readable (extentAt (q .reader) b) n)
+      (listOf (extentAt (q .reader) b) n .nodes) (listOf (extentAt (q .reader) b) n .answer) (r .ruling) all-held (w .verdict) (w .near)
 
   pub told-decided : judgedTold b q r ≡ judgedOf b q off stop n → Decided b q off stop n r
   unfolding judgedOf
   told-decided e = record {
-    verdict = whole-verdict (judgeOf (diskOf (q .reader) b) off stop) (since off) (r .nodes) (extentsIn (extentAt (q .reader) b) (runOf b q (r .kept))) (extentsIn (extentAt (q .reader) b) (scanOf b q n))
-        (listOf (extentAt (q .reader) b) (scanOf b q n) .nodes) (listOf (extentAt (q .reader) b) (scanOf b q n) .answer) (r .ruling) e;
-    near = whole-near (judgeOf (diskOf (q .reader) b) off stop) (since off) (r .nodes) (extentsIn (extentAt (q .reader) b) (runOf b q (r .kept))) (extentsIn (extentAt (q .reader) b) (scanOf b q n))
-        (listOf (extentAt (q .reader) b) (scanOf b q n) .nodes) (listOf (extentAt (q .reader) b) (scanOf b q n) .answer) (r .ruling) all-held e;
+    verdict = whole-verdict (judgeOf (diskOf (q .reader) b) off stop) (since off) (r .nodes) (readable (extentAt (q .reader) b) (runAt b q (r .kept) (r .from))) (readable (extentAt (q .reader) b) n)
+        (listOf (extentAt (q .reader) b) n .nodes) (listOf (extentAt (q .reader) b) n .answer) (r .ruling) e;
+    near = whole-near (judgeOf (diskOf (q .reader) b) off stop) (since off) (r .nodes) (readable (extentAt (q .reader) b) (runAt b q (r .kept) (r .from))) (readable (extentAt (q .reader) b) n)
+        (listOf (extentAt (q .reader) b) n .nodes) (listOf (extentAt (q .reader) b) n .answer) (r .ruling) all-held e;
   }
 
--- where s is the next step, kept is kept and j is known
-pub record Going (b : List ℕ) (q : Search) (off stop n : ℕ) (j : Judging) (s kept : Step) : Type 0 where
-  pub goes : reading (extentAt (q .reader) b) (judging (diskOf (q .reader) b) off stop j) (runOf b q s) ≡ (onto (listOf (extentAt (q .reader) b) (scanOf b q n)) λ es t. after t (judgeOf (diskOf (q .reader) b) off stop es))
-  pub near : j .rises ≡ true → inOrder start (j .last) (extentsIn (extentAt (q .reader) b) (runOf b q s)) ≡ fine
-      → seek off (extentsIn (extentAt (q .reader) b) (runOf b q kept)) (extentsIn (extentAt (q .reader) b) (runOf b q s)) ≡ since off (extentsIn (extentAt (q .reader) b) (scanOf b q n))
+-- where j is known, cur is what is left of the run n, and kept what is left from the kept entry on
+pub record Going (b : List ℕ) (q : Search) (off stop : ℕ) (n : Run) (j : Judging) (cur kept : Run) : Type 0 where
+  pub goes : reading (extentAt (q .reader) b) (judging (diskOf (q .reader) b) off stop j) cur ≡ (onto (listOf (extentAt (q .reader) b) n) λ es t. after t (judgeOf (diskOf (q .reader) b) off stop es))
+  pub near : j .rises ≡ true → inOrder start (j .last) (readable (extentAt (q .reader) b) cur) ≡ fine
+      → seek off (readable (extentAt (q .reader) b) kept) (readable (extentAt (q .reader) b) cur) ≡ since off (readable (extentAt (q .reader) b) n)
 
 rose : (m l : ℕ) (b : Bool) → ifLe m l b false ≡ true → (m ≤ l) × (b ≡ true)
 rose m l b = le-cases (λ (x : Bool). x ≡ true → (m ≤ l) × (b ≡ true)) (λ h e. (h, e)) (λ h e. absurd (let z : _≡_ {A = ℕ} 0 1 = cc in omega arith))
@@ -128,61 +128,70 @@ closing-rises j = of (j .rises)
     of true e = refl
     of false e = absurd (let z : _≡_ {A = ℕ} 0 1 = cc in omega arith)
 
-module _ (b : List ℕ) (q : Search) (off stop n : ℕ) where
-  pub judge-start : (j : Judging) (s : Step) → j ≡ record { last = 0; rises = true; ruling = Fine } → runOf b q s ≡ scanOf b q n → Going b q off stop n j s s
-  judge-start j s h e = record {
-    goes = list-start (extentAt (q .reader) b) (judging (diskOf (q .reader) b) off stop j) b q s n e
-        ∙ ap (λ (k : List Extent → Verdict). onto (listOf (extentAt (q .reader) b) (scanOf b q n)) λ es t. after t (k es)) (fun-ext (λ es. judging-start (diskOf (q .reader) b) off stop j es h));
-    near = λ r c. rw e;
+module _ (b : List ℕ) (q : Search) (off stop : ℕ) (n : Run) where
+  pub judge-start : (j : Judging) → j ≡ record { last = 0; rises = true; ruling = Fine } → Going b q off stop n j n n
+  judge-start j h = record {
+    goes = list-start (extentAt (q .reader) b) (judging (diskOf (q .reader) b) off stop j) n
+        ∙ ap (λ (k : List Extent → Verdict). onto (listOf (extentAt (q .reader) b) n) λ es t. after t (k es)) (fun-ext (λ es. judging-start (diskOf (q .reader) b) off stop j es h));
+    near = λ r c. refl;
   }
 
-  module _ (j : Judging) (s kept : Step) (i : Going b q off stop n j s kept) where
-    pub judge-end : (y : Seen) → y ≡ looked (extentAt (q .reader) b) (s .found) → y ≡ seen.Over → (x : Ruling) (r : Judged) → ruled x ≡ closing j → r ≡ record { ruling = x; kept = kept; nodes = s .nodes }
+  -- the next extent in the leaf of a step; x is what was seen, and kept is what is kept
+  module _ (j : Judging) (s : Step) (c : ℕ) (kept : Run) (i : Going b q off stop n j (runAt b q s c) kept)
+      (x : Seen Extent) (k : x ≡ seenIn (extentAt (q .reader) b) (inStep b q (s .reached) c)) where
+    pub judge-end : x ≡ over → (y : Ruling) (r : Judged) (d : Step) (f : ℕ) → kept ≡ runAt b q d f → ruled y ≡ closing j → r ≡ record { ruling = y; kept = d; from = f; nodes = s .nodes }
         → judgedTold b q r ≡ judgedOf b q off stop n
     unfolding inOrder seek
-    judge-end y k l x r w e =
-        let h = seen-over (extentAt (q .reader) b) (s .found) (sym k ∙ l) in
-        let o : extentsIn (extentAt (q .reader) b) (runOf b q s) ≡ [] = held-over (extentAt (q .reader) b) b q s y k l in
+    judge-end l y r d f u w e =
+        let o : readable (extentAt (q .reader) b) (runAt b q s c) ≡ [] = readable-over (extentAt (q .reader) b) b q s c x k l in
         decided-told b q off stop n r (rw e (record {
-          verdict = rw w (ap (after (s .nodes)) (sym (judging-end (diskOf (q .reader) b) off stop j)) ∙ list-end (extentAt (q .reader) b) (judging (diskOf (q .reader) b) off stop j) b q s _ (i .goes) h);
-          near = λ f. rw o at (i .near (closing-rises j (sym w ∙ ap ruled f)) (rw o));
+          verdict = rw w (ap (after (s .nodes)) (sym (judging-end (diskOf (q .reader) b) off stop j)) ∙ list-over (extentAt (q .reader) b) b q s c x k (judging (diskOf (q .reader) b) off stop j) _ (i .goes) l);
+          near = λ g. rw (← u) (rw o at (i .near (closing-rises j (sym w ∙ ap ruled g)) (rw o)));
         }))
 
-    stopped : (w : Refusal) (r : Judged) → after (s .nodes) (no w) ≡ (onto (listOf (extentAt (q .reader) b) (scanOf b q n)) λ es t. after t (judgeOf (diskOf (q .reader) b) off stop es))
-        → r ≡ record { ruling = No w; kept = kept; nodes = s .nodes } → judgedTold b q r ≡ judgedOf b q off stop n
-    stopped w r h e = decided-told b q off stop n r (rw e (record { verdict = h; near = λ f. absurd (let z : _≡_ {A = ℕ} 0 1 = cc in omega arith) }))
+    pub judge-no : (w : Refusal) → x ≡ refusal w → (r : Judged) (d : Step) (f : ℕ) → r ≡ record { ruling = No w; kept = d; from = f; nodes = s .nodes } → judgedTold b q r ≡ judgedOf b q off stop n
+    judge-no w l r d f e =
+        decided-told b q off stop n r (rw e (record {
+          verdict = list-no (extentAt (q .reader) b) b q s c x k (judging (diskOf (q .reader) b) off stop j) _ (i .goes) w l;
+          near = λ g. absurd (let z : _≡_ {A = ℕ} 0 1 = cc in omega arith);
+        }))
 
-    module _ (x : Seen) (k : x ≡ looked (extentAt (q .reader) b) (s .found)) where
-      pub judge-no : (w : Refusal) → x ≡ seen.No w → (r : Judged) → r ≡ record { ruling = No w; kept = kept; nodes = s .nodes } → judgedTold b q r ≡ judgedOf b q off stop n
-      judge-no w l r e = stopped w r (seen-no (extentAt (q .reader) b) b q s x k (judging (diskOf (q .reader) b) off stop j) _ (i .goes) w l) e
+    -- the leaf is passed
+    pub judge-passed : x ≡ passed → (t : Step) → Begins b q t (left b q (s .path) (s .level) (s .nodes)) → Going b q off stop n j (runAt b q t (t .from)) kept
+    judge-passed l t g = rw (run-on (extentAt (q .reader) b) b q s c x k t l g) i
 
-      module _ (e : Extent) (l : x ≡ seen.At e) (y : Judging) (o : OneMore (diskOf (q .reader) b) off stop j e y) (t : Step) (u : runOf b q t ≡ left b q (s .cursor) (s .nodes)) where
-        on : reading (extentAt (q .reader) b) (judging (diskOf (q .reader) b) off stop y) (runOf b q t) ≡ (onto (listOf (extentAt (q .reader) b) (scanOf b q n)) λ es m. after m (judgeOf (diskOf (q .reader) b) off stop es))
-        on =
-            let a = seen-at (extentAt (q .reader) b) (s .found) e (sym k ∙ l) in
-            list-next (extentAt (q .reader) b) (judging (diskOf (q .reader) b) off stop j) b q s _ (i .goes) (a .0) (a .1 .0) (judging (diskOf (q .reader) b) off stop y) e t (a .1 .1) (judging-next (diskOf (q .reader) b) off stop j y e o) u
+    module _ (e : Extent) (a : ℕ) (l : x ≡ element e a) (y : Judging) (o : OneMore (diskOf (q .reader) b) off stop j e y) where
+      on : reading (extentAt (q .reader) b) (judging (diskOf (q .reader) b) off stop y) (runAt b q s a) ≡ (onto (listOf (extentAt (q .reader) b) n) λ es m. after m (judgeOf (diskOf (q .reader) b) off stop es))
+      on = list-at (extentAt (q .reader) b) b q s c x k (judging (diskOf (q .reader) b) off stop j) _ (i .goes) (judging (diskOf (q .reader) b) off stop y) e a l (judging-next (diskOf (q .reader) b) off stop j y e o)
 
-        held : extentsIn (extentAt (q .reader) b) (runOf b q s) ≡ e ∷ extentsIn (extentAt (q .reader) b) (runOf b q t)
-        held = held-at (extentAt (q .reader) b) b q s x k e t l u
+      held : readable (extentAt (q .reader) b) (runAt b q s c) ≡ e ∷ readable (extentAt (q .reader) b) (runAt b q s a)
+      held = readable-at (extentAt (q .reader) b) b q s c x k e a l
 
-        -- what was sought from s on
-        from-here : y .rises ≡ true → inOrder start (y .last) (extentsIn (extentAt (q .reader) b) (runOf b q t)) ≡ fine
-            → seek off (extentsIn (extentAt (q .reader) b) (runOf b q kept)) (e ∷ extentsIn (extentAt (q .reader) b) (runOf b q t)) ≡ since off (extentsIn (extentAt (q .reader) b) (scanOf b q n))
-        unfolding inOrder
-        from-here r c =
-            let m = rose (j .last) (e .logical) (j .rises) (sym (o .rises) ∙ r) in
-            rw held at (i .near (m .1) (rw held (sym (at-most _ _ _ _ _ (m .0) (sym (rw (o .last) at c))))))
+      -- what was sought from here on
+      from-here : y .rises ≡ true → inOrder start (y .last) (readable (extentAt (q .reader) b) (runAt b q s a)) ≡ fine
+          → seek off (readable (extentAt (q .reader) b) kept) (e ∷ readable (extentAt (q .reader) b) (runAt b q s a)) ≡ since off (readable (extentAt (q .reader) b) n)
+      unfolding inOrder
+      from-here r d =
+          let m = rose (j .last) (e .logical) (j .rises) (sym (o .rises) ∙ r) in
+          rw held at (i .near (m .1) (rw held (sym (at-most _ _ _ _ _ (m .0) (sym (rw (o .last) at d))))))
 
-        pub judge-near : e .logical ≤ off → Going b q off stop n y t s
-        judge-near v = record {
-          goes = on;
-          near = λ r c. rw held (sym (seek-takes off _ e _ v) ∙ from-here r c);
-        }
+      pub judge-near : e .logical ≤ off → Going b q off stop n y (runAt b q s a) (runAt b q s c)
+      judge-near v = record {
+        goes = on;
+        near = λ r d. rw held (sym (seek-takes off _ e _ v) ∙ from-here r d);
+      }
 
-        pub judge-far : off < e .logical → Going b q off stop n y t kept
-        judge-far v = record {
-          goes = on;
-          near = λ r c. seek-past off (e .logical) _ _ v (rw (o .last) at c) ∙ sym (seek-stays off _ e _ v) ∙ from-here r c;
-        }
+      pub judge-far : off < e .logical → Going b q off stop n y (runAt b q s a) kept
+      judge-far v = record {
+        goes = on;
+        near = λ r d. seek-past off (e .logical) _ _ v (rw (o .last) at d) ∙ sym (seek-stays off _ e _ v) ∙ from-here r d;
+      }
 
-pub ruleset turns = (needs, seen-less, judge-start, judge-end, judge-no)
+pub kept-same : (b : List ℕ) (q : Search) (d e : Step) (f : ℕ) → d ≡ e → runAt b q e f ≡ runAt b q d f
+kept-same b q d e f h = rw h
+
+pub judge-whole : (b : List ℕ) (q : Search) (off stop : ℕ) (n : Run) (t : Step) (r : Judged) → Begins b q t n → judgedTold b q r ≡ judgedOf b q off stop (runAt b q t (t .from)) →
+    judgedTold b q r ≡ judgedOf b q off stop n
+judge-whole b q off stop n t r h e = rw (h .run) at e
+
+pub ruleset turns = (needs, seens, less-at, less-passed, judge-start, judge-end, judge-no)

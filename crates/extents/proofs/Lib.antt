@@ -2,5 +2,4 @@ pub mod Verdicts
 pub mod ExtentLaws
 pub mod VerdictLaws
 pub mod JudgeLaws
-pub mod SeenLaws
 pub mod JudgeTurns

@@ -7,42 +7,18 @@ use mathlib.Core.List.{List, [], _∷_}
 use Rattle.error.specs.Answer.{Answer, got, no, pick, ifLe}
 use Rattle.error.specs.declared.Refusal.the-variants.{Corrupt}
 use Rattle.lookup.specs.Counted.{Counted, after, onto}
-use Rattle.btree.specs.Scan.{Run, more, end, refused, scanOf}
+use Rattle.btree.specs.Scan.{Run}
 use Rattle.btree.specs.declared.entries.Search.{Search}
-use Rattle.btree.specs.declared.entries.Place.{Place}
-use Rattle.btree.specs.declared.entries.Found.{Found}
-use Rattle.btree.specs.declared.entries.Found.the-variants as found
-use Rattle.cursor.specs.Left.{runOf}
+use Rattle.cursor.specs.Left.{runAt}
 use Rattle.records.specs.Extent.{extentAt}
 use Rattle.records.specs.declared.extent.Extent.{Extent}
 use Rattle.lists.specs.Lists.{listOf}
+use Rattle.lists.specs.Inner.{readable}
 use Rattle.extents.specs.Verdict.{Verdict, fine, _>>_}
 use Rattle.extents.specs.Ruling.{ruled}
 use Rattle.extents.specs.Extents.{Disk, diskOf, ascending, since, allows, decide}
-use Rattle.extents.specs.declared.walk.Seen.{Seen}
-use Rattle.extents.specs.declared.walk.Seen.the-variants.{Over, At, No}
 use Rattle.extents.specs.declared.deciding.Judging.{Judging}
 use Rattle.extents.specs.declared.deciding.Judged.{Judged}
-
-abbrev pub seen : Answer Extent → Seen
-seen (got e) = At e
-seen (no w) = No w
-
--- the extent at a step of a walk, each record read by g, or how the walk ended
-unfoldable pub looked : (Place → Answer Extent) → Found → Seen
-looked g (found.At p) = seen (g p)
-looked g found.End = Over
-looked g (found.No w) = No w
-
-abbrev pub before : Answer Extent → List Extent → List Extent
-before (got e) es = e ∷ es
-before (no w) es = []
-
--- the extents of a run, up to the first record that is none
-unfoldable pub extentsIn : (Place → Answer Extent) → Run → List Extent
-extentsIn g (more p s r) = before (g p) (extentsIn g r)
-extentsIn g (end s) = []
-extentsIn g (refused w s) = []
 
 -- an extent that starts at or past stop is not looked at (fs.rs, `read_extents_at`: `if e.logical >= end`)
 unfoldable pub touches : Disk → ℕ → ℕ → Extent → Verdict
@@ -66,10 +42,10 @@ pub record OneMore (d : Disk) (off stop : ℕ) (j : Judging) (e : Extent) (r : J
 abbrev pub closing : Judging → Verdict
 closing j = pick (j .rises) (ruled (j .ruling)) (no Corrupt)
 
--- what the pass answers: what it refuses, or else the extents from its kept step on
+-- what the pass answers: what it refuses, or else the extents from its kept entry on
 abbrev pub judgedTold : List ℕ → Search → Judged → Counted (List Extent)
-judgedTold b q r = after (r .nodes) (ruled (r .ruling) >> got (extentsIn (extentAt (q .reader) b) (runOf b q (r .kept))))
+judgedTold b q r = after (r .nodes) (ruled (r .ruling) >> got (readable (extentAt (q .reader) b) (runAt b q (r .kept) (r .from))))
 
--- that is: all extents of a search are read, then judged, and those from the last at or before off on are given
-unfoldable pub judgedOf : List ℕ → Search → ℕ → ℕ → ℕ → Counted (List Extent)
-judgedOf b q off stop n = onto (listOf (extentAt (q .reader) b) (scanOf b q n)) λ es t. after t (judgeOf (diskOf (q .reader) b) off stop es >> got (since off es))
+-- that is: all extents of a run are read, then judged, and those from the last at or before off on are given
+unfoldable pub judgedOf : List ℕ → Search → ℕ → ℕ → Run → Counted (List Extent)
+judgedOf b q off stop r = onto (listOf (extentAt (q .reader) b) r) λ es t. after t (judgeOf (diskOf (q .reader) b) off stop es >> got (since off es))

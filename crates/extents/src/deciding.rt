@@ -1,18 +1,20 @@
 // The deciding pass: all extents of a file are read, and no byte of the buffer is written.
 use crate::verdict::Ruling;
 use crate::verdict::touches_at;
-use crate::walk::Seen;
-use crate::walk::look;
 use btree::Search;
 use cursor::Step;
 use cursor::first;
 use cursor::next;
 use error::Refusal;
+use lists::ExtentIn;
+use lists::extent_in;
 use obj::Reader;
 use records::Extent;
 ghost use mathlib.Core.Path.{_≡_};
 ghost use mathlib.Core.Bool.{false};
-ghost use Rattle.error.specs.Answer.{ifLe};
+ghost use Rattle.error.specs.Answer.{pick, ifLe};
+ghost use Rattle.btree.specs.Scan.{scanOf};
+ghost use Rattle.cursor.specs.Left.{runAt};
 ghost use Rattle.extents.specs.Extents.{diskOf};
 ghost use Rattle.extents.specs.Ruling.{ruled};
 ghost use Rattle.extents.specs.Inner.{bothOf, OneMore, closing, judgedTold, judgedOf};
@@ -24,10 +26,11 @@ pub struct Judging {
     pub ruling: Ruling,
 }
 
-// The verdict of all, the step at the last extent at or before the offset (or at the first), and the nodes gone through.
+// The verdict of all, the step and the entry of the last extent at or before the offset (or of the first), and the nodes gone through.
 pub struct Judged {
     pub ruling: Ruling,
     pub kept: Step,
+    pub from: u32,
     pub nodes: u64,
 }
 
@@ -78,18 +81,30 @@ fn closed(j: Judging) -> Ruling
     Ruling::No(Refusal::Corrupt)
 }
 
-fn answer(ruling: Ruling, kept: Step, nodes: u64) -> Judged
-    ensures { λ r. ⌜ r ≡ record { ruling = ruling; kept = kept; nodes = nodes } ⌝ }
+fn answer(ruling: Ruling, kept: Step, from: u32, nodes: u64) -> Judged
+    ensures { λ r. ⌜ r ≡ record { ruling = ruling; kept = kept; from = from; nodes = nodes } ⌝ }
 {
     Judged {
         ruling: ruling,
         kept: kept,
+        from: from,
         nodes: nodes,
     }
 }
 
-pub fn judge(image: &[u8], q: Search, off: u64, stop: u64, nodes: u64) -> Judged
-    ensures { λ r. ⌜ judgedTold (now (image .entry)) q r ≡ judgedOf (now (image .entry)) q off stop nodes ⌝ }
+// The step that is kept: the present one, where the extent stands in its leaf.
+fn kept_of(here: bool, s: Step, before: Step) -> Step
+    ensures { λ r. ⌜ r ≡ pick here s before ⌝ }
+{
+    if here {
+        return s;
+    }
+    before
+}
+
+// The extents from a step on.
+pub fn judge_from(image: &[u8], q: Search, off: u64, stop: u64, start: Step) -> Judged
+    ensures { λ r. ⌜ judgedTold (now (image .entry)) q r ≡ judgedOf (now (image .entry)) q off stop (runAt (now (image .entry)) q start (start .from)) ⌝ }
 {
     let reader = q.reader;
     let mut j = Judging {
@@ -97,21 +112,37 @@ pub fn judge(image: &[u8], q: Search, off: u64, stop: u64, nodes: u64) -> Judged
         rises: true,
         ruling: Ruling::Fine,
     };
-    let mut s = first(image, q, nodes);
+    let mut s = start;
+    let mut i = s.from;
     let mut kept = s;
+    let mut from = i;
+    let mut here = true;
     loop {
-        let found = s.found;
-        match look(image, reader, found) {
-            Seen::Over => return answer(closed(j), kept, s.nodes),
-            Seen::No(w) => return answer(Ruling::No(w), kept, s.nodes),
-            Seen::At(e) => {
+        let at = s.reached;
+        match extent_in(image, q, at, i) {
+            ExtentIn::Over => return answer(closed(j), kept_of(here, s, kept), from, s.nodes),
+            ExtentIn::No(w) => return answer(Ruling::No(w), kept, from, s.nodes),
+            ExtentIn::Passed => {
+                kept = kept_of(here, s, kept);
+                here = false;
+                let c = s.path;
+                s = next(image, q, c, s.level, s.nodes);
+                i = s.from;
+            }
+            ExtentIn::At(e, after) => {
                 j = one_more(image, reader, off, stop, j, e);
                 if e.logical <= off {
-                    kept = s;
+                    here = true;
+                    from = i;
                 }
-                let c = s.cursor;
-                s = next(image, q, c, s.nodes);
+                i = after;
             }
         }
     }
+}
+
+pub fn judge(image: &[u8], q: Search, off: u64, stop: u64, nodes: u64) -> Judged
+    ensures { λ r. ⌜ judgedTold (now (image .entry)) q r ≡ judgedOf (now (image .entry)) q off stop (scanOf (now (image .entry)) q nodes) ⌝ }
+{
+    judge_from(image, q, off, stop, first(image, q, nodes))
 }

@@ -8,20 +8,21 @@ use borrow.Author.Needs.{needs}
 use Rattle.error.specs.declared.Refusal.{Refusal}
 use Rattle.error.proofs.Laws.{at-most}
 use Rattle.btree.specs.declared.entries.Search.{Search}
-use Rattle.cursor.specs.Left.{left, runOf}
-use Rattle.cursor.specs.declared.Step.{Step}
+use Rattle.cursor.specs.Left.{left, runAt, inStep, Begins}
+use Rattle.cursor.specs.declared.steps.Step.{Step}
 use Rattle.records.specs.Extent.{extentAt}
 use Rattle.records.specs.declared.extent.Extent.{Extent}
 use Rattle.extents.specs.Verdict.{fine}
 use Rattle.extents.specs.Extents.{Disk, diskOf, start, inOrder, ascending, allows, decide}
 use Rattle.files.specs.Inner.{lay, Ready}
-use Rattle.extents.specs.Inner.{looked, extentsIn}
-use Rattle.extents.specs.declared.walk.Seen.{Seen}
-use Rattle.extents.specs.declared.walk.Seen.the-variants as seen
+use Rattle.lists.specs.Inner.{readable}
+use Rattle.lists.specs.Seen.{Seen, over, element, refusal, seenIn}
+use Rattle.lists.specs.Seen as seen
+use Rattle.lists.proofs.Reading.{less-at, less-passed, readable-over, readable-no, readable-at, readable-passed}
+use Rattle.lists.proofs.Turns.{seens}
 use Rattle.extents.proofs.Verdicts.{passed, went}
 use Rattle.extents.proofs.ExtentLaws.{decide-goes}
 use Rattle.files.proofs.CopyLaws.{lay-none, lay-halt, lay-cons, lay-length}
-use Rattle.extents.proofs.SeenLaws.{seen-less, held-over, held-no, held-at, held-more}
 
 pub lower : (at : ℕ) (es : List Extent) → inOrder start at es ≡ fine → ascending es ≡ fine
 unfolding inOrder
@@ -61,33 +62,34 @@ module _ (d : Disk) (off m : ℕ) (out whole : List ℕ) where
         goes = rw h (sym (lay-cons d off e es out) ∙ l .goes);
       }
 
-module _ (b : List ℕ) (q : Search) (off m : ℕ) (s : Step) (out whole : List ℕ) where
+module _ (b : List ℕ) (q : Search) (off m : ℕ) (s : Step) (i : ℕ) (out whole : List ℕ) where
   abbrev pub Filling : Type 0
-  Filling = Laying (diskOf (q .reader) b) off m (extentsIn (extentAt (q .reader) b) (runOf b q s)) out whole
+  Filling = Laying (diskOf (q .reader) b) off m (readable (extentAt (q .reader) b) (runAt b q s i)) out whole
 
-  module _ (l : Filling) where
-    module _ (x : Seen) (k : x ≡ looked (extentAt (q .reader) b) (s .found)) where
-      pub fill-over : x ≡ seen.Over → out ≡ whole
-      fill-over y = done (diskOf (q .reader) b) off m out whole (rw (held-over (extentAt (q .reader) b) b q s x k y) at l)
+  module _ (l : Filling) (x : Seen Extent) (k : x ≡ seenIn (extentAt (q .reader) b) (inStep b q (s .reached) i)) where
+    pub fill-over : x ≡ over → out ≡ whole
+    fill-over y = done (diskOf (q .reader) b) off m out whole (rw (readable-over (extentAt (q .reader) b) b q s i x k y) at l)
 
-      pub fill-no : (w : Refusal) → x ≡ seen.No w → out ≡ whole
-      fill-no w y = done (diskOf (q .reader) b) off m out whole (rw (held-no (extentAt (q .reader) b) b q s x k w y) at l)
+    pub fill-no : (w : Refusal) → x ≡ refusal w → out ≡ whole
+    fill-no w y = done (diskOf (q .reader) b) off m out whole (rw (readable-no (extentAt (q .reader) b) b q s i x k w y) at l)
 
-      module _ (e : Extent) (y : x ≡ seen.At e) where
-        -- what is left, without the step after s
-        held : (es : List Extent) × (extentsIn (extentAt (q .reader) b) (runOf b q s) ≡ e ∷ es)
-        held = held-more (extentAt (q .reader) b) b q s x k e y
+    pub fill-passed : x ≡ seen.passed → (t : Step) → Begins b q t (left b q (s .path) (s .level) (s .nodes)) →
+        Laying (diskOf (q .reader) b) off m (readable (extentAt (q .reader) b) (runAt b q t (t .from))) out whole
+    fill-passed y t g = rw (readable-passed (extentAt (q .reader) b) b q s i x k t y g) l
 
-        pub fill-halt : off + m ≤ e .logical → out ≡ whole
-        fill-halt v = halted (diskOf (q .reader) b) off m out whole e (held .0) (rw (held .1) at l) v
+    module _ (e : Extent) (a : ℕ) (y : x ≡ element e a) where
+      held : Laying (diskOf (q .reader) b) off m (e ∷ readable (extentAt (q .reader) b) (runAt b q s a)) out whole
+      held = rw (readable-at (extentAt (q .reader) b) b q s i x k e a y) at l
 
-        pub fill-allows : e .logical < off + m → allows (diskOf (q .reader) b) off (off + length out) e ≡ fine
-        fill-allows v = allowed (diskOf (q .reader) b) off m out whole e (held .0) (rw (held .1) at l) v
+      pub fill-halt : off + m ≤ e .logical → out ≡ whole
+      fill-halt v = halted (diskOf (q .reader) b) off m out whole e _ held v
 
-        pub fill-next : e .logical < off + m → (next : List ℕ) (t : Step) → next ≡ lay (diskOf (q .reader) b) off (e ∷ []) out → runOf b q t ≡ left b q (s .cursor) (s .nodes)
-            → Laying (diskOf (q .reader) b) off m (extentsIn (extentAt (q .reader) b) (runOf b q t)) next whole
-        fill-next v next t n u =
-            laid (diskOf (q .reader) b) off m out whole e (extentsIn (extentAt (q .reader) b) (runOf b q t)) (rw (held-at (extentAt (q .reader) b) b q s x k e t y u) at l) v next n
+      pub fill-allows : e .logical < off + m → allows (diskOf (q .reader) b) off (off + length out) e ≡ fine
+      fill-allows v = allowed (diskOf (q .reader) b) off m out whole e _ held v
+
+      pub fill-next : e .logical < off + m → (next : List ℕ) → next ≡ lay (diskOf (q .reader) b) off (e ∷ []) out
+          → Laying (diskOf (q .reader) b) off m (readable (extentAt (q .reader) b) (runAt b q s a)) next whole
+      fill-next v next n = laid (diskOf (q .reader) b) off m out whole e _ held v next n
 
 -- the buffer is cleared first
 module _ (d : Disk) (off k : ℕ) (es : List Extent) (clear : List ℕ) (h : clear ≡ replicate k 0) where
@@ -97,4 +99,4 @@ module _ (d : Disk) (off k : ℕ) (es : List Extent) (clear : List ℕ) (h : cle
   pub fill-whole : (out : List ℕ) → out ≡ lay d off es clear → out ≡ lay d off es (replicate k 0)
   fill-whole out e = rw h at e
 
-pub ruleset fills = (needs, seen-less, fill-start, fill-whole, fill-over, fill-no, fill-halt, fill-allows, fill-next)
+pub ruleset fills = (needs, seens, less-at, less-passed, fill-start, fill-whole, fill-over, fill-no, fill-passed, fill-halt, fill-allows, fill-next)

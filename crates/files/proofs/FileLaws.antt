@@ -13,7 +13,7 @@ use Rattle.bytes.specs.declared.Number.the-variants as number
 use Rattle.lookup.specs.Counted.{Counted, after, from, onto}
 use Rattle.btree.specs.Scan.{scanOf}
 use Rattle.btree.specs.declared.entries.Search.{Search}
-use Rattle.cursor.specs.Left.{runOf}
+use Rattle.cursor.specs.Left.{runAt}
 use Rattle.volume.specs.declared.Volume.{Volume}
 use Rattle.records.specs.Extent.{extentAt}
 use Rattle.records.specs.declared.extent.Extent.{Extent}
@@ -26,7 +26,8 @@ use Rattle.extents.specs.Ruling.{ruled}
 use Rattle.extents.specs.Extents.{Disk, diskOf, start, inOrder, ascending, seek, since, decide}
 use Rattle.files.specs.Read.{span, bytes, readAt}
 use Rattle.files.specs.Inner.{lay, Ready, readOver, stopOf}
-use Rattle.extents.specs.Inner.{extentsIn, judgeOf, judgedTold, judgedOf}
+use Rattle.lists.specs.Inner.{readable}
+use Rattle.extents.specs.Inner.{judgeOf, judgedTold, judgedOf}
 use Rattle.files.specs.File.{sizeOf, readFile, readTold}
 use Rattle.inode_record.specs.Inode.{compressed}
 use Rattle.extents.specs.declared.verdict.Ruling.the-variants.{Fine, No}
@@ -34,7 +35,7 @@ use Rattle.extents.specs.declared.deciding.Judged.{Judged}
 use Rattle.files.specs.declared.read.FileRead.{FileRead}
 use Rattle.extents.proofs.Verdicts.{le-or-gt, passed, went, assoc}
 use Rattle.extents.proofs.ExtentLaws.{seek-takes, seek-stays}
-use Rattle.extents.proofs.SeenLaws.{held-list}
+use Rattle.lists.proofs.Reading.{listed}
 use Rattle.extents.proofs.JudgeTurns.{Decided, told-decided}
 use Rattle.files.proofs.CopyLaws.{lay-start, lay-length}
 use Rattle.files.proofs.CopyTurns.{lower}
@@ -126,7 +127,7 @@ module _ (c : Counted (List ℕ)) (s : ℕ) (out : List ℕ) where
 
 -- ---- the two passes of a read
 
-module _ (b : List ℕ) (q : Search) (size off len s n m : ℕ) (qn : n ≡ min len (size - off)) (qm : m ≡ stopOf size off n) (r : Judged) (w : Decided b q off m s r) where
+module _ (b : List ℕ) (q : Search) (size off len s n m : ℕ) (qn : n ≡ min len (size - off)) (qm : m ≡ stopOf size off n) (r : Judged) (w : Decided b q off m (scanOf b q s) r) where
   pub file-refused : (e : Refusal) → r .ruling ≡ No e → after (r .nodes) (no e) ≡ readOver b q size off len s
   unfolding readOver
   file-refused e h =
@@ -138,8 +139,8 @@ module _ (b : List ℕ) (q : Search) (size off len s n m : ℕ) (qn : n ≡ min 
     all = list-passes (listOf (extentAt (q .reader) b) (scanOf b q s)) (judgeOf (diskOf (q .reader) b) off m) (r .nodes) (ruled (r .ruling)) (w .verdict) (ap ruled h)
 
     -- the extents from the kept step on
-    kept : extentsIn (extentAt (q .reader) b) (runOf b q (r .kept)) ≡ since off (all .0)
-    kept = w .near h ∙ rw (held-list (extentAt (q .reader) b) (scanOf b q s) (all .0) (ap (λ (c : Counted (List Extent)). c .answer) (all .1 .0)))
+    kept : readable (extentAt (q .reader) b) (runAt b q (r .kept) (r .from)) ≡ since off (all .0)
+    kept = w .near h ∙ rw (listed (extentAt (q .reader) b) (scanOf b q s) (all .0) (ap (λ (c : Counted (List Extent)). c .answer) (all .1 .0)))
 
     judged : (ascending (all .0) ≡ fine) × (decide (diskOf (q .reader) b) off m (since off (all .0)) ≡ fine)
     unfolding judgeOf
@@ -149,7 +150,7 @@ module _ (b : List ℕ) (q : Search) (size off len s n m : ℕ) (qn : n ≡ min 
     unfolding readOver
     read = rw (all .1 .0, read-judged (diskOf (q .reader) b) size off len n m qn qm (all .0), all .1 .1)
 
-    pub file-ready : 0 < n → Ready (diskOf (q .reader) b) off (off + n) (extentsIn (extentAt (q .reader) b) (runOf b q (r .kept)))
+    pub file-ready : 0 < n → Ready (diskOf (q .reader) b) off (off + n) (readable (extentAt (q .reader) b) (runAt b q (r .kept) (r .from)))
     file-ready k =
         let z : m ≡ off + n = stop-sum (diskOf (q .reader) b) size off len n m qn qm (omega arith) in
         rw kept (record { decided = ap (λ (x : ℕ). decide (diskOf (q .reader) b) off x (since off (all .0))) (sym z) ∙ judged .1; rising = seek-rises off 0 (all .0) (all .0) (judged .0) (judged .0) })
@@ -159,7 +160,7 @@ module _ (b : List ℕ) (q : Search) (size off len s n m : ℕ) (qn : n ≡ min 
         let e : bytes (diskOf (q .reader) b) (all .0) off n ≡ [] = ap (bytes (diskOf (q .reader) b) (all .0) off) z ∙ bytes-none (diskOf (q .reader) b) (all .0) off in
         rw (read, e)
 
-    pub file-bytes : (bs : List ℕ) → bs ≡ lay (diskOf (q .reader) b) off (extentsIn (extentAt (q .reader) b) (runOf b q (r .kept))) (replicate n 0) → after (r .nodes) (got bs) ≡ readOver b q size off len s
+    pub file-bytes : (bs : List ℕ) → bs ≡ lay (diskOf (q .reader) b) off (readable (extentAt (q .reader) b) (runAt b q (r .kept) (r .from))) (replicate n 0) → after (r .nodes) (got bs) ≡ readOver b q size off len s
     unfolding bytes
     file-bytes bs e =
         let f : bs ≡ bytes (diskOf (q .reader) b) (all .0) off n = e ∙ rw kept (lay-start (diskOf (q .reader) b) off (since off (all .0)) n) in
@@ -169,9 +170,9 @@ pub part-length : (n k : ℕ) (out : List ℕ) → n ≡ min (length out) k → 
 part-length n k out h = simp length-take (omega arith)
 
 -- the same of the call: out is the buffer that it was lent
-module _ (b : List ℕ) (q : Search) (size off s n m : ℕ) (out : List ℕ) (qn : n ≡ min (length out) (size - off)) (qm : m ≡ stopOf size off n) (r : Judged) (e : judgedTold b q r ≡ judgedOf b q off m s) where
-  w : Decided b q off m s r
-  w = told-decided b q off m s r e
+module _ (b : List ℕ) (q : Search) (size off s n m : ℕ) (out : List ℕ) (qn : n ≡ min (length out) (size - off)) (qm : m ≡ stopOf size off n) (r : Judged) (e : judgedTold b q r ≡ judgedOf b q off m (scanOf b q s)) where
+  w : Decided b q off m (scanOf b q s) r
+  w = told-decided b q off m (scanOf b q s) r e
 
   pub call-refused : (x : Refusal) → r .ruling ≡ No x → readTold (record { count = number.No x; nodes = r .nodes }) out ≡ answered (readOver b q size off (length out) s) out
   call-refused x h = told-no _ (r .nodes) out x (file-refused b q size off (length out) s n m qn qm r w x h)
@@ -180,13 +181,13 @@ module _ (b : List ℕ) (q : Search) (size off s n m : ℕ) (out : List ℕ) (qn
   call-none h z = told-none _ (r .nodes) out (file-none b q size off (length out) s n m qn qm r w h z)
 
   pub call-ready : r .ruling ≡ Fine → (n ≡ 0 → ⊥) → size < 2 ^ 64
-      → (off + length (take n out) < 2 ^ 64) × Ready (diskOf (q .reader) b) off (off + length (take n out)) (extentsIn (extentAt (q .reader) b) (runOf b q (r .kept)))
+      → (off + length (take n out) < 2 ^ 64) × Ready (diskOf (q .reader) b) off (off + length (take n out)) (readable (extentAt (q .reader) b) (runAt b q (r .kept) (r .from)))
   call-ready h z k = rw (← part-length n (size - off) out qn) (omega arith, file-ready b q size off (length out) s n m qn qm r w h (omega arith))
 
-  pub call-filled : r .ruling ≡ Fine → (bs : List ℕ) → bs ≡ lay (diskOf (q .reader) b) off (extentsIn (extentAt (q .reader) b) (runOf b q (r .kept))) (replicate (length (take n out)) 0)
+  pub call-filled : r .ruling ≡ Fine → (bs : List ℕ) → bs ≡ lay (diskOf (q .reader) b) off (readable (extentAt (q .reader) b) (runAt b q (r .kept) (r .from))) (replicate (length (take n out)) 0)
       → readTold (record { count = number.Got n; nodes = r .nodes }) (bs ++ drop n out) ≡ answered (readOver b q size off (length out) s) out
   call-filled h bs l =
-      let f : bs ≡ lay (diskOf (q .reader) b) off (extentsIn (extentAt (q .reader) b) (runOf b q (r .kept))) (replicate n 0) = rw (← part-length n (size - off) out qn) at l in
+      let f : bs ≡ lay (diskOf (q .reader) b) off (readable (extentAt (q .reader) b) (runAt b q (r .kept) (r .from))) (replicate n 0) = rw (← part-length n (size - off) out qn) at l in
       told-bytes _ (r .nodes) out n bs (rw f (lay-length (diskOf (q .reader) b) off _ (replicate n 0) ∙ length-replicate n 0)) (omega arith) (file-bytes b q size off (length out) s n m qn qm r w h bs f)
 
 module _ (b : List ℕ) (v : Volume) (i : Inode) (off len s : ℕ) (out : List ℕ) where

@@ -2,11 +2,11 @@
 use btree::Search;
 use cursor::Step;
 use cursor::next;
-use extents::Seen;
 use extents::block_size;
 use extents::larger;
-use extents::look;
 use extents::smaller;
+use lists::ExtentIn;
+use lists::extent_in;
 use obj::Reader;
 use records::Extent;
 use text::clear;
@@ -14,11 +14,11 @@ ghost use mathlib.Core.Path.{_≡_};
 ghost use mathlib.Core.List.{[], _∷_};
 ghost use Prim.Native.Nat.{_+_, _^_, _≤_, _<_};
 ghost use lib.ListN.{length, replicate};
-ghost use Rattle.cursor.specs.Left.{runOf};
+ghost use Rattle.cursor.specs.Left.{runAt};
 ghost use Rattle.records.specs.Extent.{extentAt};
+ghost use Rattle.lists.specs.Inner.{readable};
 ghost use Rattle.extents.specs.Verdict.{fine};
 ghost use Rattle.extents.specs.Extents.{diskOf, allows};
-ghost use Rattle.extents.specs.Inner.{extentsIn};
 ghost use Rattle.files.specs.Inner.{lay, pasted, Ready};
 
 fn paste_at(image: &[u8], out: &mut [u8], at: usize, from: usize, n: usize)
@@ -56,27 +56,32 @@ pub fn lay_at(image: &[u8], reader: Reader, off: u64, out: &mut [u8], e: Extent)
     );
 }
 
-// The bytes of the file from off on: zeros, and over them the extents from a step on, which were decided upon.
-pub fn fill(image: &[u8], q: Search, off: u64, out: &mut [u8], kept: Step)
-    requires { ⌜ (off + length (now out) < 2 ^ 64) × Ready (diskOf (q .reader) (now image)) off (off + length (now out)) (extentsIn (extentAt (q .reader) (now image)) (runOf (now image) q kept)) ⌝ }
-    ensures { λ _. ⌜ now (out .exit) ≡ lay (diskOf (q .reader) (now (image .entry))) off (extentsIn (extentAt (q .reader) (now (image .entry))) (runOf (now (image .entry)) q kept)) (replicate (length (now (out .entry))) 0) ⌝ }
+// The bytes of the file from off on: zeros, and over them the extents from an entry of a step on, which were decided upon.
+pub fn fill(image: &[u8], q: Search, off: u64, out: &mut [u8], kept: Step, from: u32)
+    requires { ⌜ (off + length (now out) < 2 ^ 64) × Ready (diskOf (q .reader) (now image)) off (off + length (now out)) (readable (extentAt (q .reader) (now image)) (runAt (now image) q kept from)) ⌝ }
+    ensures { λ _. ⌜ now (out .exit) ≡ lay (diskOf (q .reader) (now (image .entry))) off (readable (extentAt (q .reader) (now (image .entry))) (runAt (now (image .entry)) q kept from)) (replicate (length (now (out .entry))) 0) ⌝ }
 {
     clear(out);
     let reader = q.reader;
     let stop = off + out.len() as u64;
     let mut s = kept;
+    let mut i = from;
     loop {
-        let found = s.found;
-        match look(image, reader, found) {
-            Seen::Over => return,
-            Seen::No(_) => return,
-            Seen::At(e) => {
+        let at = s.reached;
+        match extent_in(image, q, at, i) {
+            ExtentIn::Over => return,
+            ExtentIn::No(_) => return,
+            ExtentIn::Passed => {
+                let c = s.path;
+                s = next(image, q, c, s.level, s.nodes);
+                i = s.from;
+            }
+            ExtentIn::At(e, after) => {
                 if stop <= e.logical {
                     return;
                 }
                 lay_at(image, reader, off, out, e);
-                let c = s.cursor;
-                s = next(image, q, c, s.nodes);
+                i = after;
             }
         }
     }

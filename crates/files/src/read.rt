@@ -77,7 +77,7 @@ fn read_over(image: &[u8], q: Search, size: u64, off: u64, out: &mut [u8], nodes
         };
     }
     let kept = j.kept;
-    fill(image, q, off, &mut out[..n as usize], kept);
+    fill(image, q, off, &mut out[..n as usize], kept, j.from);
     FileRead {
         count: Number::Got(n),
         nodes: j.nodes,

@@ -26,10 +26,20 @@ use Rattle.inode_record.specs.Inode.{compressed}
 use Rattle.extents.specs.Ruling.{ruled}
 use Rattle.extents.specs.declared.verdict.Ruling.{Ruling}
 use Rattle.streams.specs.Streams.{settledTold, settledOf, streamOf}
-use Rattle.streams.specs.Inner.{streamBytes}
+use Rattle.streams.specs.Inner.{runBytes, streamBytes}
 use Rattle.streams.specs.declared.settle.Settled.{Settled}
 use Rattle.streams.proofs.Contents.{stream-settled}
-use Rattle.contents.specs.Whole.{settledWhole}
+use Rattle.contents.specs.Inner.{wholeFrom}
+use Rattle.contents.proofs.Laws.{whole-begun}
+use Rattle.btree.specs.Scan.{Run, scanOf}
+use Rattle.btree.specs.declared.entries.Place.{Place}
+use Rattle.records.specs.declared.extent.Extent.{Extent}
+use Rattle.btree.specs.declared.entries.Search.{Search}
+use Rattle.cursor.specs.Left.{runAt, Begins}
+use Rattle.cursor.specs.declared.steps.Step.{Step}
+use Rattle.records.specs.Extent.{extentAt}
+use Rattle.lists.specs.Lists.{searchOf}
+use Rattle.extents.specs.Extents.{Disk, diskOf}
 use Rattle.contents.proofs.Plain.{plain-settled}
 use Rattle.links.specs.Link.{contentsBy}
 use Rattle.lines.specs.Shown.{attributeShown, formShown, plain}
@@ -57,10 +67,10 @@ bytes-line : (room : ℕ) (o h x z : Output) (c : List ℕ) → h ≡ puts room 
 bytes-line room o h x z c p q e =
     e ∙ rw (q, p, ← puts-append room (pairs c []) (ascii ")\n" []) _, ← puts-append room (ascii "(data x" []) _ o, data-texts c)
 
-pub file-line : (room : ℕ) (b : List ℕ) (v : Volume) (i : Inode) (size : ℕ) (o h x z : Output) → size ≡ sizeOf i → h ≡ puts room (ascii "(data x" []) o
-    → x ≡ puts room (pairs (streamBytes b v (i .ids .«private_id») size 0) []) h → z ≡ puts room (ascii ")\n" []) x → z ≡ puts room (contentsLine (plain (streamBytes b v (i .ids .«private_id») (sizeOf i) 0)) []) o
-file-line room b v i size o h x z k p q e =
-    bytes-line room o h x z (streamBytes b v (i .ids .«private_id») size 0) p q e ∙ ap (λ (n : ℕ). puts room (contentsLine (plain (streamBytes b v (i .ids .«private_id») n 0)) []) o) k
+pub file-line : (room : ℕ) (g : Place → Answer Extent) (d : Disk) (r : Run) (i : Inode) (size : ℕ) (o h x z : Output) → size ≡ sizeOf i → h ≡ puts room (ascii "(data x" []) o
+    → x ≡ puts room (pairs (runBytes g d size 0 r) []) h → z ≡ puts room (ascii ")\n" []) x → z ≡ puts room (contentsLine (plain (runBytes g d (sizeOf i) 0 r)) []) o
+file-line room g d r i size o h x z k p q e =
+    bytes-line room o h x z (runBytes g d size 0 r) p q e ∙ ap (λ (n : ℕ). puts room (contentsLine (plain (runBytes g d n 0 r)) []) o) k
 
 pub packed-line : (room : ℕ) (o z : Output) → z ≡ puts room (ascii "(packed)\n" []) o → z ≡ puts room (contentsLine shown.packed []) o
 unfolding contentsLine
@@ -102,17 +112,20 @@ module _ (room : ℕ) (b : List ℕ) (v : Volume) (a : Attribute) (o z : Output)
   streamed-trace d q h = h ∙ ap (λ (x : AttributeData). written (contentsBy b v (a .place) x 0 .answer)) (sym q)
 
 module _ (room : ℕ) (b : List ℕ) (v : Volume) (i : Inode) (o z : Output) where
-  module _ (r : Settled) (p : settledTold r ≡ settledWhole b v i 0) where
+  -- the file's extents are those from a step on
+  module _ (q : Search) (t : Step) (e : q ≡ searchOf v (i .ids .«private_id») 8) (g : Begins b q t (scanOf b q 0)) (r : Settled)
+      (p : settledTold r ≡ wholeFrom b v i (runAt b (searchOf v (i .ids .«private_id») 8) t (t .from))) where
     whole-ruling : readPlain b v i 0 ≡ (onto (after (r .nodes) (ruled (r .ruling))) λ u t. after t (got (streamBytes b v (i .ids .«private_id») (sizeOf i) 0)))
-    whole-ruling = plain-settled b v i 0 ∙ ap (λ (c : Counted (Unit {0})). onto c λ u t. after t (got (streamBytes b v (i .ids .«private_id») (sizeOf i) 0))) (sym p)
+    whole-ruling = plain-settled b v i 0 ∙ ap (λ (c : Counted (Unit {0})). onto c λ u t. after t (got (streamBytes b v (i .ids .«private_id») (sizeOf i) 0))) (sym (whole-begun b v i 0 q t r e g p))
 
-    pub plain-fine : r .ruling ≡ Ruling.Fine → z ≡ puts room (contentsLine (plain (streamBytes b v (i .ids .«private_id») (sizeOf i) 0)) []) o → z ≡ run room (plainTrace b v i) o
-    unfolding plainTrace
-    plain-fine q h = reading-got room _ _ o _ z (settled-got (r .nodes) (r .ruling) _ _ whole-ruling q) (run-says room _ o z h)
+    pub plain-fine : r .ruling ≡ Ruling.Fine
+        → z ≡ puts room (contentsLine (plain (runBytes (extentAt (v .reader) b) (diskOf (v .reader) b) (sizeOf i) 0 (runAt b (searchOf v (i .ids .«private_id») 8) t (t .from)))) []) o → z ≡ run room (plainTrace b v i) o
+    unfolding plainTrace streamBytes
+    plain-fine x h = reading-got room _ _ o _ z (settled-got (r .nodes) (r .ruling) _ _ whole-ruling x) (run-says room _ o z (rw (rw e at (g .run)) at h))
 
     pub plain-refused : (w : Refusal) → r .ruling ≡ Ruling.No w → z ≡ ending (stop w) o → z ≡ run room (plainTrace b v i) o
     unfolding plainTrace
-    plain-refused w q h = reading-no room _ _ o w z (settled-no (r .nodes) (r .ruling) _ _ whole-ruling w q) h
+    plain-refused w x h = reading-no room _ _ o w z (settled-no (r .nodes) (r .ruling) _ _ whole-ruling w x) h
 
   pub data-packed : compressed i ≡ 1 → z ≡ puts room (contentsLine shown.packed []) o → z ≡ run room (dataTrace b v i) o
   unfolding dataTrace

@@ -5,20 +5,20 @@
 use Prim.Native.Nat.{ℕ}
 use mathlib.Core.Path.{_≡_}
 use mathlib.Core.List.{List, [], _∷_}
-use mathlib.Core.Option.{Option, none, some}
 use Rattle.error.specs.Answer.{Answer, got, no, _>>=_, ifEq}
 use Rattle.text.specs.Output.{Output, at, refused, outputOf, puts}
 use Rattle.text.specs.declared.Position.{Position}
-use Rattle.btree.specs.Scan as scan
-use Rattle.btree.specs.declared.entries.Place.{Place}
-use Rattle.btree.specs.declared.entries.Found.{Found}
-use Rattle.btree.specs.declared.entries.Found.the-variants.{At, End, No}
+use Rattle.btree.specs.Scan.{Run}
+use Rattle.cursor.specs.Left.{runAt}
+use Rattle.cursor.specs.declared.steps.Step.{Step}
 use Rattle.volume.specs.declared.Volume.{Volume}
 use Rattle.records.specs.declared.attribute.Attribute.{Attribute}
 use Rattle.records.specs.declared.attribute.StreamData.{StreamData}
-use Rattle.records.specs.declared.directory.Entry.{Entry}
 use Rattle.inode_record.specs.declared.inode.Inode.{Inode}
-use Rattle.lists.specs.Lists.{attributesOf, entriesOf}
+use Rattle.records.specs.Attribute.{attributeAt}
+use Rattle.records.specs.Directory.{entryAt}
+use Rattle.records.specs.declared.directory.Entry.{Entry}
+use Rattle.lists.specs.Lists.{searchOf, listOf, attributesOf}
 use Rattle.files.specs.File.{readPlain}
 use Rattle.inode_record.specs.Inode.{compressed}
 use Rattle.streams.specs.Streams.{streamOf}
@@ -28,10 +28,6 @@ use Rattle.lines.specs.Shown as shown
 use Rattle.lines.specs.Lines.{nodeLine, attributeLine, contentsLine}
 use Rattle.demand.specs.Trace.{done, stop, Trace, says, _then_, reading}
 use Rattle.demand.specs.Trace as trace
-use Rattle.forms.specs.declared.seen.SeenEntry.{SeenEntry}
-use Rattle.forms.specs.declared.seen.SeenEntry.the-variants as entry
-use Rattle.forms.specs.declared.seen.SeenAttribute.{SeenAttribute}
-use Rattle.forms.specs.declared.seen.SeenAttribute.the-variants as attribute
 
 -- ---- a trace written into a lent buffer
 
@@ -54,35 +50,6 @@ endOf (no e) = stop e
 unfoldable pub Tested : {A : Type 0} → Answer A → Position → Position → Type 0
 Tested a p r = (b : List ℕ) → outputOf r b ≡ ending (endOf a) (outputOf p b)
 
--- ---- the elements of a run that can be read, up to the first that can't
-
-abbrev pub readThen : {A : Type 0} → Answer A → List A → List A
-readThen (got x) xs = x ∷ xs
-readThen (no e) xs = []
-
-unfoldable pub readable : {A : Type 0} → (Place → Answer A) → scan.Run → List A
-readable f (scan.more p s r) = readThen (f p) (readable f r)
-readable f (scan.end s) = []
-readable f (scan.refused e s) = []
-
-abbrev pub read? : {A : Type 0} → Answer A → Option A
-read? (got x) = some x
-read? (no e) = none
-
--- what a step of a walk gives
-abbrev pub seenAt : {A : Type 0} → (Place → Answer A) → Found → Option A
-seenAt f (At p) = read? (f p)
-seenAt f End = none
-seenAt f (No e) = none
-
-abbrev pub entrySeen : SeenEntry → Option Entry
-entrySeen entry.Over = none
-entrySeen (entry.At e) = some e
-
-abbrev pub attributeSeen : SeenAttribute → Option Attribute
-attributeSeen attribute.Over = none
-attributeSeen (attribute.At a) = some a
-
 -- ---- what a node's form holds besides its entries
 
 -- an attribute's line
@@ -103,14 +70,15 @@ plainTrace b v i = reading (readPlain b v i 0 .answer) λ d. says (contentsLine 
 unfoldable pub dataTrace : List ℕ → Volume → Inode → Trace
 dataTrace b v i = ifEq (compressed i) 1 (says (contentsLine shown.packed [])) (plainTrace b v i)
 
--- "all its attributes, then all its entries, are read"
-unfoldable pub listsOf : List ℕ → Volume → ℕ → Answer (List Entry)
-listsOf b v id = attributesOf b v id 0 .answer >>= λ l. entriesOf b v id 0 .answer
+-- "all its attributes, then all its entries, are read", each from the step that begins them
+unfoldable pub listsOf : List ℕ → Volume → ℕ → Step → Step → Answer (List Entry)
+listsOf b v id s t =
+    listOf (attributeAt (v .reader) b) (runAt b (searchOf v id 4) s (s .from)) .answer >>= λ l. listOf (entryAt (v .reader) b) (runAt b (searchOf v id 9) t (t .from)) .answer
 
--- a node up to its entries
-unfoldable pub headTrace : List ℕ → Volume → Inode → Trace
-headTrace b v i =
+-- a node up to its entries: "all its attributes, then all its entries, are read"; the entries are those of a run
+unfoldable pub headTrace : List ℕ → Volume → Inode → Run → Trace
+headTrace b v i r =
     says (nodeLine (inodeShown (v .reader) b i) []) then
     reading (attributesOf b v (i .id) 0 .answer) λ l.
-    reading (entriesOf b v (i .id) 0 .answer) λ es.
+    reading (listOf (entryAt (v .reader) b) r .answer) λ es.
     attributeTraces b v l then dataTrace b v i

@@ -1,12 +1,12 @@
 // The attributes of a node, a line each.
 use crate::refusing::refuse;
-use crate::seen::SeenAttribute;
-use crate::seen::look_attribute;
-use cursor::first;
+use cursor::Step;
 use cursor::next;
 use extents::Ruling;
 use lines::put_attribute_embedded;
 use lines::put_attribute_head;
+use lists::AttributeIn;
+use lists::attribute_in;
 use lists::search;
 use records::Attribute;
 use records::AttributeData;
@@ -19,13 +19,14 @@ use volume::Volume;
 ghost use mathlib.Core.Path.{_≡_};
 ghost use mathlib.Core.List.{[]};
 ghost use Rattle.text.specs.Output.{outputOf, puts};
-ghost use Rattle.btree.specs.Scan.{scanOf};
+ghost use Rattle.cursor.specs.Left.{runAt};
 ghost use Rattle.records.specs.Attribute.{attributeAt};
 ghost use Rattle.lists.specs.Lists.{searchOf};
+ghost use Rattle.lists.specs.Inner.{readable};
 ghost use Rattle.lines.specs.Shown.{attributeShown};
 ghost use Rattle.lines.specs.Lines.{attributeLine};
 ghost use Rattle.streams.specs.Inner.{streamBytes};
-ghost use Rattle.forms.specs.Inner.{run, readable, streamTrace, attributeTrace, attributeTraces};
+ghost use Rattle.forms.specs.Inner.{run, streamTrace, attributeTrace, attributeTraces};
 
 // A line with a stream's bytes, where the stream can be read.
 pub fn put_streamed(
@@ -85,7 +86,7 @@ fn put_attribute(
     }
 }
 
-// Nothing is read once the position is refused.
+// The attributes from a step on. Nothing is read once the position is refused.
 pub fn put_attributes(
     out: &mut [u8],
     room: usize,
@@ -93,24 +94,30 @@ pub fn put_attributes(
     image: &[u8],
     v: Volume,
     id: u64,
+    start: Step,
 ) -> Position
-    ensures { λ r. ⌜ outputOf r (now (out .exit)) ≡ run room (attributeTraces (now (image .entry)) v (readable (attributeAt (v .reader) (now (image .entry))) (scanOf (now (image .entry)) (searchOf v id 4) 0))) (outputOf p (now (out .entry))) ⌝ }
+    ensures { λ r. ⌜ outputOf r (now (out .exit)) ≡ run room (attributeTraces (now (image .entry)) v (readable (attributeAt (v .reader) (now (image .entry))) (runAt (now (image .entry)) (searchOf v id 4) start (start .from)))) (outputOf p (now (out .entry))) ⌝ }
 {
     let q = search(v, id, 4);
-    let reader = v.reader;
     let mut o = p;
-    let mut s = first(image, q, 0);
+    let mut s = start;
+    let mut i = s.from;
     loop {
         if let Position::No(w) = o {
             return Position::No(w);
         }
-        let found = s.found;
-        match look_attribute(image, reader, found) {
-            SeenAttribute::Over => return o,
-            SeenAttribute::At(a) => {
+        let at = s.reached;
+        match attribute_in(image, q, at, i) {
+            AttributeIn::Over => return o,
+            AttributeIn::No(_) => return o,
+            AttributeIn::Passed => {
+                let c = s.path;
+                s = next(image, q, c, s.level, s.nodes);
+                i = s.from;
+            }
+            AttributeIn::At(a, after) => {
                 o = put_attribute(out, room, o, image, v, a);
-                let c = s.cursor;
-                s = next(image, q, c, s.nodes);
+                i = after;
             }
         }
     }

@@ -1,10 +1,13 @@
 // The data of a node: a file's bytes, or that it is packed.
 use crate::refusing::refuse;
 use contents::settle_whole;
+use cursor::Step;
+use cursor::first;
 use extents::Ruling;
 use files::size_of;
 use inode_record::Inode;
-use streams::put_stream_hex;
+use lists::search;
+use streams::put_stream_from;
 use text::Position;
 use text::put_all;
 use volume::Volume;
@@ -14,10 +17,14 @@ ghost use Rattle.text.specs.Output.{outputOf, puts};
 ghost use Rattle.files.specs.File.{sizeOf};
 ghost use Rattle.lines.specs.Shown.{plain};
 ghost use Rattle.lines.specs.Lines.{contentsLine};
-ghost use Rattle.streams.specs.Inner.{streamBytes};
+ghost use Rattle.cursor.specs.Left.{runAt};
+ghost use Rattle.records.specs.Extent.{extentAt};
+ghost use Rattle.lists.specs.Lists.{searchOf};
+ghost use Rattle.extents.specs.Extents.{diskOf};
+ghost use Rattle.streams.specs.Inner.{runBytes};
 ghost use Rattle.forms.specs.Inner.{run, plainTrace, dataTrace};
 
-// The line of a file that can be read whole.
+// The line of a file that can be read whole, its extents from a step on.
 fn put_bytes(
     out: &mut [u8],
     room: usize,
@@ -25,13 +32,14 @@ fn put_bytes(
     image: &[u8],
     v: Volume,
     i: Inode,
+    start: Step,
 ) -> Position
-    ensures { λ r. ⌜ outputOf r (now (out .exit)) ≡ puts room (contentsLine (plain (streamBytes (now (image .entry)) v (i .ids .«private_id») (sizeOf i) 0)) []) (outputOf p (now (out .entry))) ⌝ }
+    ensures { λ r. ⌜ outputOf r (now (out .exit)) ≡ puts room (contentsLine (plain (runBytes (extentAt (v .reader) (now (image .entry))) (diskOf (v .reader) (now (image .entry))) (sizeOf i) 0 (runAt (now (image .entry)) (searchOf v (i .ids .«private_id») 8) start (start .from)))) []) (outputOf p (now (out .entry))) ⌝ }
 {
     let ids = i.ids;
     let size = size_of(i);
     let a = put_all(out, room, p, b"(data x");
-    let b = put_stream_hex(out, room, a, image, v, ids.private_id, size, 0);
+    let b = put_stream_from(out, room, a, image, v, ids.private_id, size, start);
     put_all(out, room, b, b")\n")
 }
 
@@ -45,10 +53,12 @@ fn put_plain(
 ) -> Position
     ensures { λ r. ⌜ outputOf r (now (out .exit)) ≡ run room (plainTrace (now (image .entry)) v i) (outputOf p (now (out .entry))) ⌝ }
 {
-    let s = settle_whole(image, v, i, 0);
+    let ids = i.ids;
+    let start = first(image, search(v, ids.private_id, 8), 0);
+    let s = settle_whole(image, v, i, start);
     let ruling = s.ruling;
     match ruling {
-        Ruling::Fine => put_bytes(out, room, p, image, v, i),
+        Ruling::Fine => put_bytes(out, room, p, image, v, i, start),
         Ruling::No(w) => refuse(p, w),
     }
 }

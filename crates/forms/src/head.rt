@@ -2,24 +2,30 @@
 use crate::attributes::put_attributes;
 use crate::contents_line::put_data;
 use crate::refusing::refuse;
+use cursor::Step;
+use cursor::first;
 use inode_record::Inode;
 use lines::put_node_line;
 use lists::AttributeAt;
 use lists::EntryAt;
-use lists::attribute_at;
-use lists::entry_at;
+use lists::attribute_from;
+use lists::entry_from;
+use lists::search;
 use text::Position;
 use volume::Volume;
 ghost use mathlib.Core.Path.{_≡_};
 ghost use Rattle.text.specs.Output.{outputOf};
-ghost use Rattle.lists.specs.Lists.{attributesOf, entriesOf};
+ghost use Rattle.cursor.specs.Left.{runAt};
+ghost use Rattle.records.specs.Attribute.{attributeAt};
+ghost use Rattle.records.specs.Directory.{entryAt};
+ghost use Rattle.lists.specs.Lists.{searchOf, listOf};
 ghost use Rattle.forms.specs.Inner.{run, Tested, listsOf, headTrace};
 
-// A place that no list reaches: the whole list is read.
-fn read_attributes(p: Position, image: &[u8], v: Volume, id: u64) -> Position
-    ensures { λ r. ⌜ Tested (attributesOf (now (image .entry)) v id 0 .answer) p r ⌝ }
+// A place that no list reaches: the whole list from a step on is read.
+fn read_attributes(p: Position, image: &[u8], v: Volume, id: u64, start: Step) -> Position
+    ensures { λ r. ⌜ Tested (listOf (attributeAt (v .reader) (now (image .entry))) (runAt (now (image .entry)) (searchOf v id 4) start (start .from)) .answer) p r ⌝ }
 {
-    let found = attribute_at(image, v, id, 18446744073709551615, 0);
+    let found = attribute_from(image, v, id, 18446744073709551615, start);
     let attribute = found.attribute;
     match attribute {
         AttributeAt::No(w) => refuse(p, w),
@@ -28,10 +34,10 @@ fn read_attributes(p: Position, image: &[u8], v: Volume, id: u64) -> Position
     }
 }
 
-fn read_entries(p: Position, image: &[u8], v: Volume, id: u64) -> Position
-    ensures { λ r. ⌜ Tested (entriesOf (now (image .entry)) v id 0 .answer) p r ⌝ }
+fn read_entries(p: Position, image: &[u8], v: Volume, id: u64, start: Step) -> Position
+    ensures { λ r. ⌜ Tested (listOf (entryAt (v .reader) (now (image .entry))) (runAt (now (image .entry)) (searchOf v id 9) start (start .from)) .answer) p r ⌝ }
 {
-    let found = entry_at(image, v, id, 18446744073709551615, 0);
+    let found = entry_from(image, v, id, 18446744073709551615, start);
     let entry = found.entry;
     match entry {
         EntryAt::No(w) => refuse(p, w),
@@ -40,13 +46,21 @@ fn read_entries(p: Position, image: &[u8], v: Volume, id: u64) -> Position
     }
 }
 
-fn read_lists(p: Position, image: &[u8], v: Volume, id: u64) -> Position
-    ensures { λ r. ⌜ Tested (listsOf (now (image .entry)) v id) p r ⌝ }
+fn read_lists(
+    p: Position,
+    image: &[u8],
+    v: Volume,
+    id: u64,
+    attributes: Step,
+    entries: Step,
+) -> Position
+    ensures { λ r. ⌜ Tested (listsOf (now (image .entry)) v id attributes entries) p r ⌝ }
 {
-    let a = read_attributes(p, image, v, id);
-    read_entries(a, image, v, id)
+    let a = read_attributes(p, image, v, id, attributes);
+    read_entries(a, image, v, id, entries)
 }
 
+// The entries are those from a step on.
 pub fn put_head(
     out: &mut [u8],
     room: usize,
@@ -54,15 +68,17 @@ pub fn put_head(
     image: &[u8],
     v: Volume,
     i: Inode,
+    entries: Step,
 ) -> Position
-    ensures { λ r. ⌜ outputOf r (now (out .exit)) ≡ run room (headTrace (now (image .entry)) v i) (outputOf p (now (out .entry))) ⌝ }
+    ensures { λ r. ⌜ outputOf r (now (out .exit)) ≡ run room (headTrace (now (image .entry)) v i (runAt (now (image .entry)) (searchOf v (i .id) 9) entries (entries .from))) (outputOf p (now (out .entry))) ⌝ }
 {
     let reader = v.reader;
     let a = put_node_line(out, room, p, image, reader, i);
     if let Position::No(w) = a {
         return Position::No(w);
     }
-    let b = read_lists(a, image, v, i.id);
-    let c = put_attributes(out, room, b, image, v, i.id);
+    let attributes = first(image, search(v, i.id, 4), 0);
+    let b = read_lists(a, image, v, i.id, attributes, entries);
+    let c = put_attributes(out, room, b, image, v, i.id, attributes);
     put_data(out, room, c, image, v, i)
 }

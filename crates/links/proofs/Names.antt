@@ -9,21 +9,20 @@ use Rattle.error.specs.declared.Refusal.{Refusal}
 use Rattle.utf8.specs.Text.{lossy, sameBytes}
 use Rattle.obj.specs.declared.reader.Reader.{Reader}
 use Rattle.lookup.specs.Counted.{Counted, after, onto}
-use Rattle.btree.specs.Scan.{scanOf}
+use Rattle.btree.specs.Scan.{Run, scanOf}
 use Rattle.btree.specs.declared.entries.Search.{Search}
 use Rattle.btree.specs.declared.entries.Place.{Place}
-use Rattle.btree.specs.declared.entries.Found.the-variants.{At, End}
-use Rattle.cursor.specs.Left.{left, runOf}
-use Rattle.cursor.specs.declared.Step.{Step}
+use Rattle.cursor.specs.Left.{runAt, inStep}
+use Rattle.cursor.specs.declared.steps.Step.{Step}
 use Rattle.volume.specs.declared.Volume.{Volume}
-use Rattle.records.specs.Attribute.{attributeTold, attributeAt, attributeName}
+use Rattle.records.specs.Attribute.{attributeAt, attributeName}
 use Rattle.records.specs.declared.attribute.Attribute.{Attribute}
-use Rattle.records.specs.declared.attribute.AttributeRead.{AttributeRead}
 use Rattle.lists.specs.Lists.{searchOf, listOf, attributesOf}
 use Rattle.lists.specs.Told.{attributePlaced, attributeFound}
 use Rattle.lists.specs.declared.attributes.AttributeAt.{AttributeAt}
 use Rattle.lists.specs.declared.attributes.AttributeFound.{AttributeFound}
-use Rattle.lists.proofs.Reading.{reading, list-start, list-end, list-next}
+use Rattle.lists.specs.Seen.{Seen, over, element, seenIn}
+use Rattle.lists.proofs.Reading.{reading, list-start, list-over, list-at}
 use Rattle.lists.proofs.Turns as list-turns
 use Rattle.links.specs.Named.{hasName, named, attributeNamed}
 use Rattle.links.specs.Inner.{keepNamed, keptNamed}
@@ -84,26 +83,24 @@ module _ (r : Reader) (b name : List ℕ) where
   sought-next (no w) z a e xs = rw e
 
 -- the turns of the loop
-module _ (r : Reader) (b name : List ℕ) (q : Search) (s : Step) where
-  pub name-start : (n : ℕ) → runOf b q s ≡ scanOf b q n
-      → reading (attributeAt r b) (soughtName r b name (got none)) (runOf b q s) ≡ (onto (listOf (attributeAt r b) (scanOf b q n)) λ xs t. after t (got (named r b name xs)))
+module _ (r : Reader) (b name : List ℕ) (g : Place → Answer Attribute) where
+  pub name-start : (m n : Run) → m ≡ n → reading g (soughtName r b name (got none)) m ≡ (onto (listOf g n) λ xs t. after t (got (named r b name xs)))
   unfolding soughtName
-  name-start n e = list-start (attributeAt r b) (soughtName r b name (got none)) b q s n e
+  name-start m n e = rw e (list-start g (soughtName r b name (got none)) n)
 
-  module _ (o : Answer (Option Attribute)) (whole : Counted (Option Attribute)) (inv : reading (attributeAt r b) (soughtName r b name o) (runOf b q s) ≡ whole) where
-    pub name-end : s .found ≡ End → after (s .nodes) o ≡ whole
-    name-end e = ap (after (s .nodes)) (sym (sought-end r b name o)) ∙ list-end (attributeAt r b) (soughtName r b name o) b q s whole inv e
+  module _ (q : Search) (s : Step) (i : ℕ) (x : Seen Attribute) (t : x ≡ seenIn g (inStep b q (s .reached) i))
+      (o : Answer (Option Attribute)) (whole : Counted (Option Attribute)) (inv : reading g (soughtName r b name o) (runAt b q s i) ≡ whole) where
+    pub name-end : x ≡ over → after (s .nodes) o ≡ whole
+    name-end e = ap (after (s .nodes)) (sym (sought-end r b name o)) ∙ list-over g b q s i x t (soughtName r b name o) whole inv e
 
-    pub name-next : (t : Step) (z : Answer (Option Attribute)) (p : Place) (x : AttributeRead) (a : Attribute) → s .found ≡ At p → attributeTold x ≡ attributeAt r b p → x ≡ AttributeRead.Got a
-        → z ≡ keptNamed r b name o a → runOf b q t ≡ left b q (s .cursor) (s .nodes) → reading (attributeAt r b) (soughtName r b name z) (runOf b q t) ≡ whole
-    name-next t z p x a f h g k d =
-        list-next (attributeAt r b) (soughtName r b name o) b q s whole inv p f (soughtName r b name z) a t (list-turns.attribute-was x (attributeAt r b p) h a g) (sought-next r b name o z a k) d
+    pub name-next : (z : Answer (Option Attribute)) (a : Attribute) (c : ℕ) → x ≡ element a c → z ≡ keptNamed r b name o a → reading g (soughtName r b name z) (runAt b q s c) ≡ whole
+    name-next z a c e k = list-at g b q s i x t (soughtName r b name o) whole inv (soughtName r b name z) a c e (sought-next r b name o z a k)
 
 pub name-done : (b : List ℕ) (v : Volume) (id : ℕ) (name : List ℕ) (s n : ℕ) (q : Search) (x : AttributeAt) (f : AttributeFound) → q ≡ searchOf v id 4 → f ≡ record { attribute = x; nodes = n }
-    → after n (attributePlaced x) ≡ (onto (listOf (attributeAt (v .reader) b) (scanOf b q s)) λ xs t. after t (got (named (v .reader) b name xs))) → attributeFound f ≡ attributeNamed b v id name s
+    → after n (attributePlaced x) ≡ (onto (listOf (attributeAt (q .reader) b) (scanOf b q s)) λ xs t. after t (got (named (v .reader) b name xs))) → attributeFound f ≡ attributeNamed b v id name s
 unfolding attributeNamed attributesOf
 name-done b v id name s n q x f e h g = rw h (rw e at g)
 
-pub ruleset names = (list-turns.turns, name-is, name-start, name-end, name-done)
+pub ruleset names = (list-turns.turns, name-is, name-start, name-end, name-next, name-done)
 
 pub ruleset keeps = (list-turns.keeps, kept-named, kept-none, kept-first, kept-refused)

@@ -4,28 +4,26 @@ use mathlib.Core.Path.{_≡_, refl, sym, ap, _∙_}
 use mathlib.Core.Bool.{Bool}
 use mathlib.Core.List.{List, _++_, append-assoc}
 use lib.ListN.{length, replicate}
+use Rattle.error.specs.Answer.{Answer}
 use Rattle.error.specs.declared.Refusal.{Refusal}
 use Rattle.error.proofs.Laws.{at-most, above}
 use Rattle.bytes.specs.Part.{partOf}
 use Rattle.feed.specs.declared.feed.Feed.{Feed}
-use Rattle.btree.specs.Scan.{scanOf}
+use Rattle.btree.specs.Scan.{Run, scanOf}
 use Rattle.btree.specs.declared.entries.Search.{Search}
 use Rattle.btree.specs.declared.entries.Place.{Place}
-use Rattle.btree.specs.declared.entries.Found.the-variants.{At, End, No}
-use Rattle.obj.specs.declared.reader.Reader.{Reader}
-use Rattle.cursor.specs.Left.{left, runOf}
-use Rattle.cursor.specs.declared.Step.{Step}
-use Rattle.cursor.proofs.Through.{run-at, run-end, run-no}
+use Rattle.cursor.specs.Left.{left, runAt, inStep, Begins}
+use Rattle.cursor.specs.declared.steps.Step.{Step}
 use Rattle.volume.specs.declared.Volume.{Volume}
-use Rattle.records.specs.Extent.{extentTold, extentAt}
+use Rattle.records.specs.Extent.{extentAt}
 use Rattle.records.specs.declared.extent.Extent.{Extent}
-use Rattle.records.specs.declared.extent.ExtentRead.{ExtentRead}
 use Rattle.lists.specs.Lists.{searchOf}
+use Rattle.lists.specs.Seen.{Seen, over, passed, element, refusal, seenIn}
 use Rattle.extents.specs.Extents.{Disk, diskOf}
 use Rattle.streams.specs.Inner.{taken, wantedOf, nextPos, stepBytes, runBytes, streamBytes}
 use Rattle.streams.proofs.StreamLaws.{taken-sparse, taken-real}
 use Rattle.streams.proofs.Laws as stream-laws
-use Rattle.streams.proofs.Pouring.{drop-least}
+use Rattle.streams.proofs.Pouring.{drop-least, bytes-over, bytes-no, bytes-at, bytes-passed}
 use Rattle.links.specs.Inner.{fedAs}
 
 -- r, to which x still comes, gives what f gives, to which y comes
@@ -54,40 +52,35 @@ module _ (raw : Bool) (room : ℕ) (f : Feed) (b xs : List ℕ) (d : Disk) (size
       u xs ∙ k (taken d e w ++ xs) ∙ rw (← z, append-assoc)
 
 -- the turns of the loop
-pub stream-start : (raw : Bool) (room : ℕ) (f : Feed) (o : List ℕ) (rd : Reader) (b : List ℕ) (q : Search) (s : Step) (d : Disk) (size n : ℕ) → runOf b q s ≡ scanOf b q n
-    → Feeds raw room f o (runBytes (extentAt rd b) d size 0 (runOf b q s)) f o (runBytes (extentAt rd b) d size 0 (scanOf b q n))
-stream-start raw room f o rd b q s d size n e = record { as-one = λ xs. rw e }
+pub stream-start : (raw : Bool) (room : ℕ) (f : Feed) (o : List ℕ) (g : Place → Answer Extent) (d : Disk) (size : ℕ) (r n : Run) → r ≡ n
+    → Feeds raw room f o (runBytes g d size 0 r) f o (runBytes g d size 0 n)
+stream-start raw room f o g d size r n e = record { as-one = λ xs. rw e }
 
-module _ (raw : Bool) (room : ℕ) (g f : Feed) (o i : List ℕ) (rd : Reader) (b : List ℕ) (q : Search) (s : Step) (d : Disk) (size pos : ℕ) (y : List ℕ)
-    (inv : Feeds raw room g o (runBytes (extentAt rd b) d size pos (runOf b q s)) f i y) where
-  pub stream-end : (n : ℕ) (r : Feed) (c xs : List ℕ) → s .found ≡ End → n ≡ size - pos → ((ys : List ℕ) → fedAs raw room r c ys ≡ fedAs raw room g o (replicate n 0 ++ ys)) → fedAs raw room r c xs ≡ fedAs raw room f i (y ++ xs)
-  unfolding runBytes
-  stream-end n r c xs e k u = u xs ∙ rw k (rw (run-end b q s e) at (inv .as-one xs))
+module _ (raw : Bool) (room : ℕ) (h f : Feed) (o u y : List ℕ) (g : Place → Answer Extent) (d : Disk) (size pos : ℕ) (b : List ℕ) (q : Search) (s : Step) (i : ℕ)
+    (x : Seen Extent) (t : x ≡ seenIn g (inStep b q (s .reached) i)) (inv : Feeds raw room h o (runBytes g d size pos (runAt b q s i)) f u y) where
+  pub stream-end : (n : ℕ) (r : Feed) (c xs : List ℕ) → x ≡ over → n ≡ size - pos → ((ys : List ℕ) → fedAs raw room r c ys ≡ fedAs raw room h o (replicate n 0 ++ ys)) → fedAs raw room r c xs ≡ fedAs raw room f u (y ++ xs)
+  stream-end n r c xs e k l = l xs ∙ rw k (rw (bytes-over g d size pos b q s i x t e) at (inv .as-one xs))
 
-  pub stream-refused : (x : Refusal) (xs : List ℕ) → s .found ≡ No x → fedAs raw room g o xs ≡ fedAs raw room f i (y ++ xs)
-  unfolding runBytes
-  stream-refused x xs e = rw (run-no b q s x e) at (inv .as-one xs)
+  pub stream-no : (w : Refusal) (xs : List ℕ) → x ≡ refusal w → fedAs raw room h o xs ≡ fedAs raw room f u (y ++ xs)
+  stream-no w xs e = rw (bytes-no g d size pos b q s i x t w e) at (inv .as-one xs)
 
-  module _ (p : Place) (e : s .found ≡ At p) (r : ExtentRead) (h : extentTold r ≡ extentAt rd b p) where
-    pub stream-no : (x : Refusal) (xs : List ℕ) → r ≡ ExtentRead.No x → fedAs raw room g o xs ≡ fedAs raw room f i (y ++ xs)
-    unfolding runBytes
-    stream-no x xs k = rw (run-at b q s p e, ← h, k) at (inv .as-one xs)
+  pub stream-passed : (n : Step) → x ≡ passed → Begins b q n (left b q (s .path) (s .level) (s .nodes)) → Feeds raw room h o (runBytes g d size pos (runAt b q n (n .from))) f u y
+  stream-passed n e k = rw (bytes-passed g d size pos b q s i x t n e k) inv
 
-    pub stream-next : (x : Extent) (t : Step) (m : ℕ) (z : Feed) (c : List ℕ) → r ≡ ExtentRead.Got x → ((ys : List ℕ) → fedAs raw room z c ys ≡ fedAs raw room g o (stepBytes d size pos x ++ ys)) → m ≡ nextPos size pos x
-        → runOf b q t ≡ left b q (s .cursor) (s .nodes) → Feeds raw room z c (runBytes (extentAt rd b) d size m (runOf b q t)) f i y
-    unfolding runBytes
-    stream-next x t m z c k u l v = record {
-      as-one = λ xs.
-          u (runBytes (extentAt rd b) d size m (runOf b q t) ++ xs)
-          ∙ ap (fedAs raw room g o) (sym (append-assoc (stepBytes d size pos x) (runBytes (extentAt rd b) d size m (runOf b q t)) xs))
-          ∙ rw (l, v) (rw (run-at b q s p e, ← h, k) at (inv .as-one xs));
-    }
+  pub stream-next : (e : Extent) (a m : ℕ) (z : Feed) (c : List ℕ) → x ≡ element e a → ((ys : List ℕ) → fedAs raw room z c ys ≡ fedAs raw room h o (stepBytes d size pos e ++ ys)) → m ≡ nextPos size pos e
+      → Feeds raw room z c (runBytes g d size m (runAt b q s a)) f u y
+  stream-next e a m z c k l v = record {
+    as-one = λ xs.
+        l (runBytes g d size m (runAt b q s a) ++ xs)
+        ∙ ap (fedAs raw room h o) (sym (append-assoc (stepBytes d size pos e) (runBytes g d size m (runAt b q s a)) xs))
+        ∙ rw v (rw (bytes-at g d size pos b q s i x t e a k) at (inv .as-one xs));
+  }
 
 pub stream-done : (raw : Bool) (room : ℕ) (f r : Feed) (i c xs : List ℕ) (b : List ℕ) (v : Volume) (object size s : ℕ) (q : Search) → q ≡ searchOf v object 8
-    → fedAs raw room r c xs ≡ fedAs raw room f i (runBytes (extentAt (v .reader) b) (diskOf (v .reader) b) size 0 (scanOf b q s) ++ xs) → fedAs raw room r c xs ≡ fedAs raw room f i (streamBytes b v object size s ++ xs)
+    → fedAs raw room r c xs ≡ fedAs raw room f i (runBytes (extentAt (q .reader) b) (diskOf (v .reader) b) size 0 (scanOf b q s) ++ xs) → fedAs raw room r c xs ≡ fedAs raw room f i (streamBytes b v object size s ++ xs)
 unfolding streamBytes
 stream-done raw room f r i c xs b v object size s q e h = rw e at h
 
 pub ruleset pours = (stream-laws.all, zeros-taken, part-taken, step-none, step-some)
 
-pub ruleset pouring = (stream-laws.all, stream-start, stream-end, stream-refused, stream-no, stream-done)
+pub ruleset pouring = (stream-laws.all, stream-start, stream-end, stream-no, stream-passed, stream-done)

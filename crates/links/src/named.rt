@@ -1,13 +1,13 @@
 // The first attribute of a name (fs.rs, `xattr`).
-use btree::Found;
 use cursor::first;
 use cursor::next;
 use lists::AttributeAt;
 use lists::AttributeFound;
+use lists::AttributeIn;
+use lists::attribute_in;
 use lists::search;
 use obj::Reader;
 use records::Attribute;
-use records::AttributeRead;
 use records::attribute_name;
 use utf8::reads_as;
 use volume::Volume;
@@ -61,19 +61,21 @@ pub fn attribute_named(image: &[u8], v: Volume, id: u64, name: &[u8], nodes: u64
     let reader = v.reader;
     let mut kept = AttributeAt::Nothing;
     let mut s = first(image, q, nodes);
+    let mut i = s.from;
     loop {
-        let at = s.found;
-        match at {
-            Found::End => return found(kept, s.nodes),
-            Found::No(e) => return found(AttributeAt::No(e), s.nodes),
-            Found::At(p) => match records::attribute_at(reader, image, p) {
-                AttributeRead::No(e) => return found(AttributeAt::No(e), s.nodes),
-                AttributeRead::Got(a) => {
-                    kept = kept_with(kept, reader, image, name, a);
-                    let c = s.cursor;
-                    s = next(image, q, c, s.nodes);
-                }
-            },
+        let at = s.reached;
+        match attribute_in(image, q, at, i) {
+            AttributeIn::Over => return found(kept, s.nodes),
+            AttributeIn::No(e) => return found(AttributeAt::No(e), s.nodes),
+            AttributeIn::Passed => {
+                let c = s.path;
+                s = next(image, q, c, s.level, s.nodes);
+                i = s.from;
+            }
+            AttributeIn::At(a, after) => {
+                kept = kept_with(kept, reader, image, name, a);
+                i = after;
+            }
         }
     }
 }

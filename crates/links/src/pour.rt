@@ -1,18 +1,17 @@
 // The bytes of a stream, fed an extent after the other.
 use crate::raw::feed_all;
 use crate::raw::feed_zeros;
-use btree::Found;
 use bytes::Span;
 use bytes::part;
 use cursor::first;
 use cursor::next;
 use extents::smaller;
 use feed::Feed;
+use lists::ExtentIn;
+use lists::extent_in;
 use lists::search;
 use obj::Reader;
 use records::Extent;
-use records::ExtentRead;
-use records::extent_at;
 use streams::begins;
 use streams::less;
 use streams::next_pos;
@@ -90,20 +89,22 @@ pub fn push_stream(
     let mut g = f;
     let mut pos: u64 = 0;
     let mut s = first(image, q, nodes);
+    let mut i = s.from;
     loop {
-        let at = s.found;
-        match at {
-            Found::End => return feed_zeros(out, room, raw, g, less(size, pos)),
-            Found::No(_) => return g,
-            Found::At(p) => match extent_at(reader, image, p) {
-                ExtentRead::No(_) => return g,
-                ExtentRead::Got(e) => {
-                    g = push_step(out, room, raw, g, image, reader, size, pos, e);
-                    pos = next_pos(size, pos, e);
-                    let c = s.cursor;
-                    s = next(image, q, c, s.nodes);
-                }
-            },
+        let at = s.reached;
+        match extent_in(image, q, at, i) {
+            ExtentIn::Over => return feed_zeros(out, room, raw, g, less(size, pos)),
+            ExtentIn::No(_) => return g,
+            ExtentIn::Passed => {
+                let c = s.path;
+                s = next(image, q, c, s.level, s.nodes);
+                i = s.from;
+            }
+            ExtentIn::At(e, after) => {
+                g = push_step(out, room, raw, g, image, reader, size, pos, e);
+                pos = next_pos(size, pos, e);
+                i = after;
+            }
         }
     }
 }

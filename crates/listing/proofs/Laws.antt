@@ -12,11 +12,10 @@ use Rattle.text.specs.Output.{Output, refused, outputOf, puts}
 use Rattle.text.specs.Words.{ascii}
 use Rattle.text.specs.declared.Position.{Position}
 use Rattle.text.specs.declared.Position.the-variants.{No}
-use Rattle.btree.specs.Scan.{scanOf}
+use Rattle.btree.specs.Scan.{Run, scanOf}
 use Rattle.btree.specs.declared.entries.Search.{Search}
-use Rattle.btree.proofs.Places.{size}
-use Rattle.cursor.specs.Left.{left, runOf}
-use Rattle.cursor.specs.declared.Step.{Step}
+use Rattle.cursor.specs.Left.{left, runAt, inStep, Begins}
+use Rattle.cursor.specs.declared.steps.Step.{Step}
 use Rattle.volume.specs.declared.Volume.{Volume}
 use Rattle.inode_record.specs.Inode.{inodeTold}
 use Rattle.records.specs.Directory.{entryAt}
@@ -31,12 +30,14 @@ use Rattle.lines.specs.Lines.{entryLine, close}
 use Rattle.demand.specs.Trace.{stop, Trace, says}
 use Rattle.demand.specs.Listing.{entryForms, nodeForm}
 use Rattle.demand.specs.Demand.{viewOf, inodeAnswer}
-use Rattle.forms.specs.Inner.{ending, run, readable, seenAt, entrySeen, headTrace}
-use Rattle.forms.specs.declared.seen.SeenEntry.{SeenEntry}
+use Rattle.lists.specs.Inner.{readable}
+use Rattle.lists.specs.Seen.{Seen, passed, element, seenIn}
+use Rattle.lists.proofs.Reading.{less-at, less-passed, readable-over, readable-no, readable-at, readable-passed}
+use Rattle.lists.proofs.Turns.{seens}
+use Rattle.forms.specs.Inner.{ending, run, headTrace}
 use Rattle.forms.proofs.Running.{run-says, run-refused, run-then, reading-no}
-use Rattle.forms.proofs.Walking.{seen-over, seen-one, seen-less}
 use Rattle.listing.specs.Inner.{entryForm}
-use Rattle.listing.proofs.Nodes.{node-run}
+use Rattle.listing.proofs.Nodes.{begun, node-run}
 
 module _ (room : ℕ) (b : List ℕ) (v : Volume) (id levels : ℕ) (o z : Output) where
   pub node-deep : levels ≡ 0 → z ≡ ending (stop TooDeep) o → z ≡ run room (nodeForm (viewOf b v) levels id) o
@@ -55,44 +56,41 @@ module _ (room : ℕ) (b : List ℕ) (v : Volume) (id levels : ℕ) (o z : Outpu
         rw s (reading-no room (inodeAnswer b v id) _ o w z e h)
 
     -- the head, the loop that ended, and the end of the node
-    pub node-whole : (i : Inode) (x y : Output) (q : Search) (s : Step) (e : SeenEntry) → r .inode ≡ InodeRead.Got i → x ≡ run room (headTrace b v i) o
-        → run room (entryForms (nodeForm (viewOf b v) (levels - 1)) (map (entryShown (v .reader) b) (readable (entryAt (v .reader) b) (runOf b q s)))) y
-        ≡ run room (entryForms (nodeForm (viewOf b v) (levels - 1)) (map (entryShown (v .reader) b) (readable (entryAt (v .reader) b) (scanOf b (searchOf v id 9) 0)))) x
-        → entrySeen e ≡ seenAt (entryAt (v .reader) b) (s .found) → e ≡ SeenEntry.Over → z ≡ puts room (ascii ")\n" []) y → z ≡ run room (nodeForm (viewOf b v) levels id) o
+    pub node-whole : (i : Inode) (x y : Output) (q : Search) (t s : Step) (n : ℕ) → r .inode ≡ InodeRead.Got i → q ≡ searchOf v id 9 → Begins b q t (scanOf b q 0)
+        → x ≡ run room (headTrace b v i (runAt b (searchOf v (i .id) 9) t (t .from))) o
+        → run room (entryForms (nodeForm (viewOf b v) (levels - 1)) (map (entryShown (v .reader) b) (readable (entryAt (q .reader) b) (runAt b q s n)))) y
+        ≡ run room (entryForms (nodeForm (viewOf b v) (levels - 1)) (map (entryShown (v .reader) b) (readable (entryAt (q .reader) b) (runAt b q t (t .from))))) x
+        → readable (entryAt (q .reader) b) (runAt b q s n) ≡ [] → z ≡ puts room (ascii ")\n" []) y → z ≡ run room (nodeForm (viewOf b v) levels id) o
     unfolding entryForms close run puts
-    node-whole i x y q s e f g inv t u last =
-        let n : levels ≡ suc (levels - 1) = omega arith in
-        let over : readable (entryAt (v .reader) b) (runOf b q s) ≡ [] = seen-over (entryAt (v .reader) b) b q s (sym t ∙ ap entrySeen u) in
+    node-whole i x y q t s n f e g head inv over last =
+        let m : levels ≡ suc (levels - 1) = omega arith in
+        let u : inodeOf b v id 0 .answer ≡ got i = read-as (InodeRead.Got i) f in
+        let all : readable (entryAt (q .reader) b) (runAt b q t (t .from)) ≡ readable (entryAt (v .reader) b) (scanOf b (searchOf v id 9) 0) = ap (readable (entryAt (q .reader) b)) (g .run) ∙ ap (λ (a : Search). readable (entryAt (a .reader) b) (scanOf b a 0)) e in
         let there : y ≡ run room (entryForms (nodeForm (viewOf b v) (levels - 1)) (map (entryShown (v .reader) b) (readable (entryAt (v .reader) b) (scanOf b (searchOf v id 9) 0)))) x
-        = ap (λ (es : List Entry). run room (entryForms (nodeForm (viewOf b v) (levels - 1)) (map (entryShown (v .reader) b) es)) y) (sym over) ∙ inv in
-        last ∙ ap (run room (says (close []))) (there ∙ ap (run room (entryForms (nodeForm (viewOf b v) (levels - 1)) (map (entryShown (v .reader) b) (readable (entryAt (v .reader) b) (scanOf b (searchOf v id 9) 0))))) g)
-        ∙ sym (node-run b v id i (read-as (InodeRead.Got i) f) room (levels - 1) o)
-        ∙ ap (λ (m : ℕ). run room (nodeForm (viewOf b v) m id) o) (sym n)
+        = ap (λ (es : List Entry). run room (entryForms (nodeForm (viewOf b v) (levels - 1)) (map (entryShown (v .reader) b) es)) y) (sym over) ∙ inv
+        ∙ ap (λ (es : List Entry). run room (entryForms (nodeForm (viewOf b v) (levels - 1)) (map (entryShown (v .reader) b) es)) x) all in
+        last ∙ ap (run room (says (close []))) (there ∙ ap (run room (entryForms (nodeForm (viewOf b v) (levels - 1)) (map (entryShown (v .reader) b) (readable (entryAt (v .reader) b) (scanOf b (searchOf v id 9) 0)))))
+        (head ∙ ap (λ (a : Run). run room (headTrace b v i a) o) (begun b v id i u q t e g)))
+        ∙ sym (node-run b v id i u room (levels - 1) o)
+        ∙ ap (λ (a : ℕ). run room (nodeForm (viewOf b v) a id) o) (sym m)
 
 -- the turns of the loop over the entries
-module _ (room : ℕ) (form : ℕ → Trace) (b : List ℕ) (v : Volume) (q : Search) (s : Step) (o w : Output) where
+module _ (room : ℕ) (form : ℕ → Trace) (b : List ℕ) (v : Volume) (q : Search) (s : Step) (i : ℕ) (o w : Output) (inv : run room (entryForms form (map (entryShown (v .reader) b) (readable (entryAt (q .reader) b) (runAt b q s i)))) o ≡ w)
+    (x : Seen Entry) (t : x ≡ seenIn (entryAt (q .reader) b) (inStep b q (s .reached) i)) where
   one-more : (e : Entry) (es : List Entry) → run room (entryForms form (map (entryShown (v .reader) b) (e ∷ es))) o ≡ run room (entryForms form (map (entryShown (v .reader) b) es)) (run room (entryForm form (entryShown (v .reader) b e)) o)
   unfolding entryForms entryForm
   one-more e es =
       run-then room _ _ o ∙ run-then room _ _ _ ∙ run-then room _ _ _
       ∙ ap (run room (entryForms form (map (entryShown (v .reader) b) es))) (sym (run-then room _ _ o ∙ run-then room _ _ _))
 
-  pub entries-next : (r : SeenEntry) (e : Entry) (t : Step) (p : Output) → run room (entryForms form (map (entryShown (v .reader) b) (readable (entryAt (v .reader) b) (runOf b q s)))) o ≡ w
-      → entrySeen r ≡ seenAt (entryAt (v .reader) b) (s .found) → r ≡ SeenEntry.At e → p ≡ run room (entryForm form (entryShown (v .reader) b e)) o → runOf b q t ≡ left b q (s .cursor) (s .nodes)
-      → run room (entryForms form (map (entryShown (v .reader) b) (readable (entryAt (v .reader) b) (runOf b q t)))) p ≡ w
-  entries-next r e t p inv h g k u =
-      let m = seen-one (entryAt (v .reader) b) b q s e t (sym h ∙ ap entrySeen g) u in
-      ap (run room _) k ∙ sym (one-more e (readable (entryAt (v .reader) b) (runOf b q t)))
-      ∙ ap (λ (es : List Entry). run room (entryForms form (map (entryShown (v .reader) b) es)) o) (sym m) ∙ inv
+  pub entries-passed : (n : Step) → x ≡ passed → Begins b q n (left b q (s .path) (s .level) (s .nodes)) → run room (entryForms form (map (entryShown (v .reader) b) (readable (entryAt (q .reader) b) (runAt b q n (n .from))))) o ≡ w
+  entries-passed n e h = rw (readable-passed (entryAt (q .reader) b) b q s i x t n e h) inv
 
-pub entries-start : (room : ℕ) (form : ℕ → Trace) (b : List ℕ) (v : Volume) (id : ℕ) (q : Search) (s : Step) (o : Output) → q ≡ searchOf v id 9 → runOf b q s ≡ scanOf b q 0
-    → run room (entryForms form (map (entryShown (v .reader) b) (readable (entryAt (v .reader) b) (runOf b q s)))) o
-    ≡ run room (entryForms form (map (entryShown (v .reader) b) (readable (entryAt (v .reader) b) (scanOf b (searchOf v id 9) 0)))) o
-entries-start room form b v id q s o e h = rw (h, e)
-
-pub entries-less : (b : List ℕ) (v : Volume) (q : Search) (s t : Step) (r : SeenEntry) (e : Entry) → entrySeen r ≡ seenAt (entryAt (v .reader) b) (s .found) → r ≡ SeenEntry.At e
-    → runOf b q t ≡ left b q (s .cursor) (s .nodes) → size (runOf b q t) < size (runOf b q s)
-entries-less b v q s t r e h g u = seen-less (entryAt (v .reader) b) b q s e t (sym h ∙ ap entrySeen g) u
+  pub entries-next : (e : Entry) (c : ℕ) (p : Output) → x ≡ element e c → p ≡ run room (entryForm form (entryShown (v .reader) b e)) o
+      → run room (entryForms form (map (entryShown (v .reader) b) (readable (entryAt (q .reader) b) (runAt b q s c)))) p ≡ w
+  entries-next e c p g k =
+      ap (run room (entryForms form (map (entryShown (v .reader) b) (readable (entryAt (q .reader) b) (runAt b q s c))))) k ∙ sym (one-more e (readable (entryAt (q .reader) b) (runAt b q s c)))
+      ∙ ap (λ (es : List Entry). run room (entryForms form (map (entryShown (v .reader) b) es)) o) (sym (readable-at (entryAt (q .reader) b) b q s i x t e c g)) ∙ inv
 
 -- an entry's form
 module _ (room : ℕ) (form : ℕ → Trace) (b : List ℕ) (v : Volume) (e : Entry) (o p : Output) (h : p ≡ puts room (entryLine (entryShown (v .reader) b e) []) o) where
@@ -117,4 +115,4 @@ some-left n h = omega arith
 pub less-left : (n t : ℕ) → (n ≡ 0 → ⊥) → n + n ≡ t → (n - 1) + (n - 1) + 1 < t
 less-left n t h e = omega arith
 
-pub ruleset nodes = (needs, node-deep, node-no, node-whole, entries-start, entries-less, entry-refused, entry-whole)
+pub ruleset nodes = (needs, seens, node-deep, node-no, readable-over, readable-no, less-at, less-passed, entries-passed, entry-refused, entry-whole)

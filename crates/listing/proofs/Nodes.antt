@@ -10,6 +10,9 @@ use Rattle.error.specs.declared.Refusal.{Refusal}
 use Rattle.lookup.specs.Counted.{Counted}
 use Rattle.text.specs.Output.{Output, at, refused}
 use Rattle.btree.specs.Scan.{scanOf}
+use Rattle.btree.specs.declared.entries.Search.{Search}
+use Rattle.cursor.specs.Left.{runAt, Begins}
+use Rattle.cursor.specs.declared.steps.Step.{Step}
 use Rattle.volume.specs.declared.Volume.{Volume}
 use Rattle.records.specs.Directory.{entryAt}
 use Rattle.records.specs.declared.directory.Entry.{Entry}
@@ -25,9 +28,10 @@ use Rattle.demand.specs.Trace.{stop, Trace, says, _then_, reading}
 use Rattle.demand.specs.Listing.{attributeLines, dataLine, entryForms, nodeForm}
 use Rattle.demand.specs.Demand.{viewOf, withContents, inodeAnswer, entriesAnswer, attributesAnswer, contentsAnswer}
 use Rattle.demand.proofs.Inodes.{inode-placed}
-use Rattle.forms.specs.Inner.{ending, run, readable, attributeTrace, attributeTraces, plainTrace, dataTrace, headTrace}
+use Rattle.lists.specs.Inner.{readable}
+use Rattle.lists.proofs.Reading.{listed}
+use Rattle.forms.specs.Inner.{ending, run, attributeTrace, attributeTraces, plainTrace, dataTrace, headTrace}
 use Rattle.forms.proofs.Running.{run-refused, run-then, reading-got, reading-no}
-use Rattle.forms.proofs.Walking.{listed}
 
 -- a refusal stays
 stays : (room : ℕ) (t : Trace) (w : Refusal) (o : Output) → run room t (ending (stop w) o) ≡ ending (stop w) o
@@ -54,6 +58,10 @@ module _ (b : List ℕ) (v : Volume) (id : ℕ) (i : Inode) (h : inodeOf b v id 
 
   own : inodeOf b v (i .id) 0 .answer ≡ got i
   own = ap (λ (n : ℕ). inodeOf b v n 0 .answer) same-id ∙ h
+
+  -- the run from the first step is the whole scan
+  pub begun : (q : Search) (t : Step) → q ≡ searchOf v id 9 → Begins b q t (scanOf b q 0) → runAt b (searchOf v (i .id) 9) t (t .from) ≡ scanOf b (searchOf v (i .id) 9) 0
+  begun q t e g = rw same-id (rw e at (g .run))
 
   data-as : dataLine (viewOf b v) (inodeShown (v .reader) b i) ≡ dataTrace b v i
   unfolding dataLine dataTrace plainTrace inodeShown contentsAnswer
@@ -119,8 +127,8 @@ module _ (b : List ℕ) (v : Volume) (id : ℕ) (i : Inode) (h : inodeOf b v id 
     unfolding entriesOf
     read-entries ys e = listed (entryAt (v .reader) b) (scanOf b (searchOf v id 9) 0) ys (sym (ap (λ (n : ℕ). entriesOf b v n 0 .answer) same-id) ∙ e)
 
-    pub node-run : (o : Output) → run room (nodeForm (viewOf b v) (suc d) id) o ≡ way (headTrace b v i) (forms (readable (entryAt (v .reader) b) (scanOf b (searchOf v id 9) 0))) o
-    unfolding headTrace
+    pub node-run : (o : Output) → run room (nodeForm (viewOf b v) (suc d) id) o ≡ way (headTrace b v i (scanOf b (searchOf v (i .id) 9) 0)) (forms (readable (entryAt (v .reader) b) (scanOf b (searchOf v id 9) 0))) o
+    unfolding headTrace entriesOf
     node-run o =
         ap (λ (t : Trace). run room t o) node-is
         ∙ run-then room (says (nodeLine (inodeShown (v .reader) b i) [])) _ o

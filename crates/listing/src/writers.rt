@@ -2,12 +2,12 @@
 use cursor::first;
 use cursor::next;
 use error::Refusal;
-use forms::SeenEntry;
-use forms::look_entry;
 use forms::put_head;
 use forms::refuse;
 use inode_record::InodeRead;
 use lines::put_entry_line;
+use lists::EntryIn;
+use lists::entry_in;
 use lists::inode;
 use lists::search;
 use records::Entry;
@@ -42,18 +42,23 @@ pub fn put_node(
     match read {
         InodeRead::No(w) => refuse(p, w),
         InodeRead::Got(i) => {
-            let reader = v.reader;
             let q = search(v, id, 9);
-            let mut o = put_head(out, room, p, image, v, i);
             let mut s = first(image, q, 0);
+            let mut o = put_head(out, room, p, image, v, i, s);
+            let mut k = s.from;
             loop {
-                let at = s.found;
-                match look_entry(image, reader, at) {
-                    SeenEntry::Over => return put_all(out, room, o, b")\n"),
-                    SeenEntry::At(e) => {
+                let at = s.reached;
+                match entry_in(image, q, at, k) {
+                    EntryIn::Over => return put_all(out, room, o, b")\n"),
+                    EntryIn::No(_) => return put_all(out, room, o, b")\n"),
+                    EntryIn::Passed => {
+                        let c = s.path;
+                        s = next(image, q, c, s.level, s.nodes);
+                        k = s.from;
+                    }
+                    EntryIn::At(e, after) => {
                         o = put_entry(out, room, o, image, v, e, levels - 1);
-                        let c = s.cursor;
-                        s = next(image, q, c, s.nodes);
+                        k = after;
                     }
                 }
             }

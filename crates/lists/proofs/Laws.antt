@@ -1,5 +1,5 @@
 -- An element of a list by its place, as the loops find it, and an inode as the first record of its id.
-use Prim.Native.Nat.{ℕ, zero, suc, _-_}
+use Prim.Native.Nat.{ℕ, zero, suc, _-_, _≤_, _<_}
 use mathlib.Core.Path.{_≡_, refl, sym, ap, _∙_}
 use mathlib.Core.List.{List, [], _∷_}
 use mathlib.Core.Option.{Option, none, some}
@@ -8,22 +8,22 @@ use Rattle.error.specs.Answer.{Answer, got, no, _>>=_}
 use Rattle.error.specs.declared.Refusal.{Refusal}
 use Rattle.error.specs.declared.Refusal.the-variants.{NotFound}
 use Rattle.lookup.specs.Counted.{Counted, after}
+use Rattle.btree.specs.Scan.{Run}
 use Rattle.btree.specs.Scan as scan
 use Rattle.btree.specs.declared.entries.Search.{Search}
 use Rattle.btree.specs.declared.entries.Place.{Place}
 use Rattle.btree.specs.declared.entries.Found.{Found}
 use Rattle.btree.specs.declared.entries.Scanned.{Scanned}
-use Rattle.cursor.specs.Left.{runOf}
-use Rattle.cursor.specs.Left as Left
+use Rattle.cursor.specs.Left.{runAt, inStep}
 use Rattle.volume.specs.declared.Volume.{Volume}
 use Rattle.inode_record.specs.Inode.{inodeTold, inodeAt}
 use Rattle.inode_record.specs.declared.inode.InodeRead.{InodeRead}
-use Rattle.cursor.specs.declared.Step.{Step}
-use Rattle.cursor.proofs.Through as through
+use Rattle.cursor.specs.declared.steps.Step.{Step}
 use Rattle.lists.specs.Lists.{searchOf, listOf, elementAt, placed, inodeOf}
 use Rattle.lists.specs.Inner.{keep, kept}
+use Rattle.lists.specs.Seen.{Seen, over, element, seenIn}
 use Rattle.records.proofs.Laws as record-laws
-use Rattle.lists.proofs.Reading.{reading, list-start, list-end, list-next}
+use Rattle.lists.proofs.Reading.{reading, list-start, list-over, list-at}
 
 abbrev seek : {A : Type 0} → Option A → ℕ → List A → Option A
 seek none left xs = elementAt left xs
@@ -72,18 +72,34 @@ module _ {A : Type 0} (a : Answer (Option A)) (left : ℕ) (x : A) where
   pub kept-no : (w : Refusal) → a ≡ no w → no w ≡ kept a left x
   kept-no w e = rw e
 
-module _ {A : Type 0} (g : Place → Answer A) (b : List ℕ) (q : Search) (s : Step) where
-  pub place-start : (n place : ℕ) → runOf b q s ≡ scan.scanOf b q n → reading g (sought (got none) place) (runOf b q s) ≡ placed place (listOf g (scan.scanOf b q n))
+  -- of an element that is still to be passed nothing is kept
+  pub kept-as : 0 < left → a ≡ kept a left x
+  unfolding keep
+  kept-as h = let q : left ≡ suc (left - 1) = omega arith in rw q (of a)
+    where
+      of : (z : Answer (Option A)) → z ≡ kept z (suc (left - 1)) x
+      of (got none) = refl
+      of (got (some y)) = refl
+      of (no w) = refl
+
+module _ {A : Type 0} (g : Place → Answer A) where
+  pub place-start : (place : ℕ) (r : Run) → reading g (sought (got none) place) r ≡ placed place (listOf g r)
   unfolding sought
-  place-start n place e = list-start g (sought (got none) place) b q s n e
+  place-start place r = list-start g (sought (got none) place) r
 
-  module _ (a : Answer (Option A)) (left : ℕ) (whole : Counted (Option A)) (inv : reading g (sought a left) (runOf b q s) ≡ whole) where
-    pub place-end : s .found ≡ Found.End → after (s .nodes) a ≡ whole
-    place-end e = ap (after (s .nodes)) (sym (sought-end a left)) ∙ list-end g (sought a left) b q s whole inv e
+  module _ (b : List ℕ) (q : Search) (s : Step) (i : ℕ) (y : Seen A) (t : y ≡ seenIn g (inStep b q (s .reached) i))
+      (a : Answer (Option A)) (left : ℕ) (whole : Counted (Option A)) (inv : reading g (sought a left) (runAt b q s i) ≡ whole) where
+    pub place-over : y ≡ over → after (s .nodes) a ≡ whole
+    place-over e = ap (after (s .nodes)) (sym (sought-end a left)) ∙ list-over g b q s i y t (sought a left) whole inv e
 
-    pub place-next : (x : A) (z : Answer (Option A)) (m : ℕ) (p : Place) (t : Step) → s .found ≡ Found.At p → g p ≡ got x → z ≡ kept a left x → m ≡ left - 1
-        → runOf b q t ≡ Left.left b q (s .cursor) (s .nodes) → reading g (sought z m) (runOf b q t) ≡ whole
-    place-next x z m p t e h k l d = list-next g (sought a left) b q s whole inv p e (sought z m) x t h (sought-next a z left m x k l) d
+    pub place-more : (x : A) (c : ℕ) → y ≡ element x c → 0 < left → reading g (sought a (left - 1)) (runAt b q s c) ≡ whole
+    place-more x c e h = list-at g b q s i y t (sought a left) whole inv (sought a (left - 1)) x c e (sought-next a a left (left - 1) x (kept-as a left x h) refl)
+
+    pub place-here : (z : Answer (Option A)) (x : A) (c : ℕ) → y ≡ element x c → left ≤ 0 → z ≡ kept a 0 x → reading g (sought z left) (runAt b q s c) ≡ whole
+    place-here z x c e h k =
+        let n : left ≡ 0 = omega arith in
+        let m : left ≡ left - 1 = omega arith in
+        list-at g b q s i y t (sought a left) whole inv (sought z left) x c e (sought-next a z left left x (rw n k) m)
 
 -- an inode, by the first record of its id
 module _ (b : List ℕ) (v : Volume) (id s : ℕ) (q : Search) (r : Scanned) (e : q ≡ searchOf v id 3) (p : scan.scannedTold r ≡ scan.nth 0 (scan.scanOf b q s)) where

@@ -1,21 +1,22 @@
 -- The turns of the three loops over a list.
-use Prim.Native.Nat.{ℕ, _-_}
+use Prim.Native.Nat.{ℕ}
 use mathlib.Core.Path.{_≡_, sym, ap, _∙_}
 use mathlib.Core.List.{List}
-use mathlib.Core.Option.{Option, none, some}
+use mathlib.Core.Option.{none, some}
 use Rattle.error.specs.Answer.{Answer, got, no}
 use Rattle.error.specs.declared.Refusal.{Refusal}
 use Rattle.error.specs.declared.Refusal.the-variants.{Unsupported}
 use Rattle.error.proofs.Laws.{same, other}
-use Rattle.lookup.specs.Counted.{Counted, after}
-use Rattle.btree.specs.Scan.{scanOf}
+use Rattle.lookup.specs.Counted.{after}
+use Rattle.btree.specs.Scan.{Run, scanOf}
 use Rattle.btree.specs.declared.entries.Search.{Search}
 use Rattle.btree.specs.declared.entries.Place.{Place}
-use Rattle.btree.specs.declared.entries.Found.the-variants.{At}
-use Rattle.obj.specs.declared.reader.Reader.{Reader}
-use Rattle.cursor.specs.Left.{left, runOf}
-use Rattle.cursor.specs.declared.Step.{Step}
+use Rattle.btree.specs.declared.leaf.InLeaf.{InLeaf}
+use Rattle.btree.specs.declared.leaf.InLeaf.the-variants as leaf
+use Rattle.cursor.specs.Left.{runAt, Begins}
+use Rattle.cursor.specs.declared.steps.Step.{Step}
 use Rattle.volume.specs.declared.Volume.{Volume}
+use Rattle.inode_record.specs.Inode.{compressed}
 use Rattle.inode_record.specs.declared.inode.Inode.{Inode}
 use Rattle.records.specs.Directory.{entryTold, entryAt}
 use Rattle.records.specs.Attribute.{attributeTold, attributeAt}
@@ -27,18 +28,36 @@ use Rattle.records.specs.declared.attribute.AttributeRead.{AttributeRead}
 use Rattle.records.specs.declared.extent.Extent.{Extent}
 use Rattle.records.specs.declared.extent.ExtentRead.{ExtentRead}
 use Rattle.lists.specs.Lists.{searchOf, listOf, placed, entriesOf, attributesOf, extentsOf, fileExtents}
-use Rattle.inode_record.specs.Inode.{compressed}
-use Rattle.lists.specs.Inner.{kept}
+use Rattle.lists.specs.Seen.{over, passed, element, refusal, seenIn, entrySeen, attributeSeen, extentSeen}
 use Rattle.lists.specs.Told.{entryPlaced, entryFound, attributePlaced, attributeFound, extentPlaced, extentFound}
+use Rattle.lists.specs.declared.seen.EntryIn.{EntryIn}
+use Rattle.lists.specs.declared.seen.AttributeIn.{AttributeIn}
+use Rattle.lists.specs.declared.seen.ExtentIn.{ExtentIn}
 use Rattle.lists.specs.declared.entries.EntryAt.{EntryAt}
 use Rattle.lists.specs.declared.entries.EntryFound.{EntryFound}
 use Rattle.lists.specs.declared.attributes.AttributeAt.{AttributeAt}
 use Rattle.lists.specs.declared.attributes.AttributeFound.{AttributeFound}
 use Rattle.lists.specs.declared.extents.ExtentAt.{ExtentAt}
 use Rattle.lists.specs.declared.extents.ExtentFound.{ExtentFound}
-use Rattle.cursor.proofs.Through.{size-less}
-use Rattle.lists.proofs.Reading.{reading, list-refused, list-no}
-use Rattle.lists.proofs.Laws.{all, keeping, place-start, place-end, place-next, sought}
+use Rattle.lists.proofs.Reading.{less-at, less-passed, list-no, list-passed}
+use Rattle.lists.proofs.Laws.{all, keeping, place-start, place-over, place-more, place-here}
+
+-- an element, by the record that was found
+module _ {A : Type 0} (g : Place → Answer A) (y r : InLeaf) (t : r ≡ y) where
+  pub show-got : (p : Place) (a : ℕ) (x : A) → r ≡ leaf.At p a → g p ≡ got x → element x a ≡ seenIn g y
+  show-got p a x e h = rw (← t, e, h)
+
+  pub show-fault : (p : Place) (a : ℕ) (w : Refusal) → r ≡ leaf.At p a → g p ≡ no w → refusal w ≡ seenIn g y
+  show-fault p a w e h = rw (← t, e, h)
+
+  pub show-passed : r ≡ leaf.Passed → passed ≡ seenIn g y
+  show-passed e = rw (← t, e)
+
+  pub show-end : r ≡ leaf.End → over ≡ seenIn g y
+  show-end e = rw (← t, e)
+
+  pub show-no : (w : Refusal) → r ≡ leaf.No w → refusal w ≡ seenIn g y
+  show-no w e = rw (← t, e)
 
 module _ (r : EntryRead) (a : Answer Entry) (p : entryTold r ≡ a) where
   pub entry-was : (x : Entry) → r ≡ EntryRead.Got x → a ≡ got x
@@ -46,6 +65,19 @@ module _ (r : EntryRead) (a : Answer Entry) (p : entryTold r ≡ a) where
 
   pub entry-was-no : (w : Refusal) → r ≡ EntryRead.No w → a ≡ no w
   entry-was-no w q = sym p ∙ ap entryTold q
+
+module _ (r : EntryIn) where
+  pub entry-over : r ≡ EntryIn.Over → entrySeen r ≡ over
+  entry-over e = ap entrySeen e
+
+  pub entry-passed : r ≡ EntryIn.Passed → entrySeen r ≡ passed
+  entry-passed e = ap entrySeen e
+
+  pub entry-one : (x : Entry) (a : ℕ) → r ≡ EntryIn.At x a → entrySeen r ≡ element x a
+  entry-one x a e = ap entrySeen e
+
+  pub entry-refused : (w : Refusal) → r ≡ EntryIn.No w → entrySeen r ≡ refusal w
+  entry-refused w e = ap entrySeen e
 
 module _ (s : EntryAt) where
   pub entry-nothing : s ≡ EntryAt.Nothing → entryPlaced s ≡ got none
@@ -57,15 +89,14 @@ module _ (s : EntryAt) where
   pub entry-none : (w : Refusal) → s ≡ EntryAt.No w → entryPlaced s ≡ no w
   entry-none w q = rw q
 
-pub entry-next : (rd : Reader) (b : List ℕ) (q : Search) (s t : Step) (a z : Answer (Option Entry)) (n m : ℕ) (whole : Counted (Option Entry)) (p : Place) (r : EntryRead) (x : Entry)
-    → reading (entryAt rd b) (sought a n) (runOf b q s) ≡ whole → s .found ≡ At p → entryTold r ≡ entryAt rd b p → r ≡ EntryRead.Got x → z ≡ kept a n x → m ≡ n - 1
-    → runOf b q t ≡ left b q (s .cursor) (s .nodes) → reading (entryAt rd b) (sought z m) (runOf b q t) ≡ whole
-entry-next rd b q s t a z n m whole p r x inv f h g k l d = place-next (entryAt rd b) b q s a n whole inv x z m p t f (entry-was r (entryAt rd b p) h x g) k l d
+pub entry-done : (b : List ℕ) (v : Volume) (id place n : ℕ) (q : Search) (t : Step) (x : EntryAt) (r : EntryFound) → q ≡ searchOf v id 9 → r ≡ record { entry = x; nodes = n }
+    → after n (entryPlaced x) ≡ placed place (listOf (entryAt (q .reader) b) (runAt b q t (t .from))) → entryFound r ≡ placed place (listOf (entryAt (v .reader) b) (runAt b (searchOf v id 9) t (t .from)))
+entry-done b v id place n q t x r e h g = rw h (rw e at g)
 
-pub entry-done : (b : List ℕ) (v : Volume) (id place s n : ℕ) (q : Search) (x : EntryAt) (r : EntryFound) → q ≡ searchOf v id 9 → r ≡ record { entry = x; nodes = n }
-    → after n (entryPlaced x) ≡ placed place (listOf (entryAt (v .reader) b) (scanOf b q s)) → entryFound r ≡ placed place (entriesOf b v id s)
+pub entry-whole : (b : List ℕ) (v : Volume) (id place n : ℕ) (q : Search) (t : Step) (r : EntryFound) → q ≡ searchOf v id 9 → Begins b q t (scanOf b q n)
+    → entryFound r ≡ placed place (listOf (entryAt (v .reader) b) (runAt b (searchOf v id 9) t (t .from))) → entryFound r ≡ placed place (entriesOf b v id n)
 unfolding entriesOf
-entry-done b v id place s n q x r e h g = rw h (rw e at g)
+entry-whole b v id place n q t r e h g = rw (rw e at (h .run)) at g
 
 module _ (r : AttributeRead) (a : Answer Attribute) (p : attributeTold r ≡ a) where
   pub attribute-was : (x : Attribute) → r ≡ AttributeRead.Got x → a ≡ got x
@@ -73,6 +104,19 @@ module _ (r : AttributeRead) (a : Answer Attribute) (p : attributeTold r ≡ a) 
 
   pub attribute-was-no : (w : Refusal) → r ≡ AttributeRead.No w → a ≡ no w
   attribute-was-no w q = sym p ∙ ap attributeTold q
+
+module _ (r : AttributeIn) where
+  pub attribute-over : r ≡ AttributeIn.Over → attributeSeen r ≡ over
+  attribute-over e = ap attributeSeen e
+
+  pub attribute-passed : r ≡ AttributeIn.Passed → attributeSeen r ≡ passed
+  attribute-passed e = ap attributeSeen e
+
+  pub attribute-one : (x : Attribute) (a : ℕ) → r ≡ AttributeIn.At x a → attributeSeen r ≡ element x a
+  attribute-one x a e = ap attributeSeen e
+
+  pub attribute-refused : (w : Refusal) → r ≡ AttributeIn.No w → attributeSeen r ≡ refusal w
+  attribute-refused w e = ap attributeSeen e
 
 module _ (s : AttributeAt) where
   pub attribute-nothing : s ≡ AttributeAt.Nothing → attributePlaced s ≡ got none
@@ -84,15 +128,14 @@ module _ (s : AttributeAt) where
   pub attribute-none : (w : Refusal) → s ≡ AttributeAt.No w → attributePlaced s ≡ no w
   attribute-none w q = rw q
 
-pub attribute-next : (rd : Reader) (b : List ℕ) (q : Search) (s t : Step) (a z : Answer (Option Attribute)) (n m : ℕ) (whole : Counted (Option Attribute)) (p : Place) (r : AttributeRead) (x : Attribute)
-    → reading (attributeAt rd b) (sought a n) (runOf b q s) ≡ whole → s .found ≡ At p → attributeTold r ≡ attributeAt rd b p → r ≡ AttributeRead.Got x → z ≡ kept a n x → m ≡ n - 1
-    → runOf b q t ≡ left b q (s .cursor) (s .nodes) → reading (attributeAt rd b) (sought z m) (runOf b q t) ≡ whole
-attribute-next rd b q s t a z n m whole p r x inv f h g k l d = place-next (attributeAt rd b) b q s a n whole inv x z m p t f (attribute-was r (attributeAt rd b p) h x g) k l d
+pub attribute-done : (b : List ℕ) (v : Volume) (id place n : ℕ) (q : Search) (t : Step) (x : AttributeAt) (r : AttributeFound) → q ≡ searchOf v id 4 → r ≡ record { attribute = x; nodes = n }
+    → after n (attributePlaced x) ≡ placed place (listOf (attributeAt (q .reader) b) (runAt b q t (t .from))) → attributeFound r ≡ placed place (listOf (attributeAt (v .reader) b) (runAt b (searchOf v id 4) t (t .from)))
+attribute-done b v id place n q t x r e h g = rw h (rw e at g)
 
-pub attribute-done : (b : List ℕ) (v : Volume) (id place s n : ℕ) (q : Search) (x : AttributeAt) (r : AttributeFound) → q ≡ searchOf v id 4 → r ≡ record { attribute = x; nodes = n }
-    → after n (attributePlaced x) ≡ placed place (listOf (attributeAt (v .reader) b) (scanOf b q s)) → attributeFound r ≡ placed place (attributesOf b v id s)
+pub attribute-whole : (b : List ℕ) (v : Volume) (id place n : ℕ) (q : Search) (t : Step) (r : AttributeFound) → q ≡ searchOf v id 4 → Begins b q t (scanOf b q n)
+    → attributeFound r ≡ placed place (listOf (attributeAt (v .reader) b) (runAt b (searchOf v id 4) t (t .from))) → attributeFound r ≡ placed place (attributesOf b v id n)
 unfolding attributesOf
-attribute-done b v id place s n q x r e h g = rw h (rw e at g)
+attribute-whole b v id place n q t r e h g = rw (rw e at (h .run)) at g
 
 module _ (r : ExtentRead) (a : Answer Extent) (p : extentTold r ≡ a) where
   pub extent-was : (x : Extent) → r ≡ ExtentRead.Got x → a ≡ got x
@@ -100,6 +143,19 @@ module _ (r : ExtentRead) (a : Answer Extent) (p : extentTold r ≡ a) where
 
   pub extent-was-no : (w : Refusal) → r ≡ ExtentRead.No w → a ≡ no w
   extent-was-no w q = sym p ∙ ap extentTold q
+
+module _ (r : ExtentIn) where
+  pub extent-over : r ≡ ExtentIn.Over → extentSeen r ≡ over
+  extent-over e = ap extentSeen e
+
+  pub extent-passed : r ≡ ExtentIn.Passed → extentSeen r ≡ passed
+  extent-passed e = ap extentSeen e
+
+  pub extent-one : (x : Extent) (a : ℕ) → r ≡ ExtentIn.At x a → extentSeen r ≡ element x a
+  extent-one x a e = ap extentSeen e
+
+  pub extent-refused : (w : Refusal) → r ≡ ExtentIn.No w → extentSeen r ≡ refusal w
+  extent-refused w e = ap extentSeen e
 
 module _ (s : ExtentAt) where
   pub extent-nothing : s ≡ ExtentAt.Nothing → extentPlaced s ≡ got none
@@ -111,15 +167,14 @@ module _ (s : ExtentAt) where
   pub extent-none : (w : Refusal) → s ≡ ExtentAt.No w → extentPlaced s ≡ no w
   extent-none w q = rw q
 
-pub extent-next : (rd : Reader) (b : List ℕ) (q : Search) (s t : Step) (a z : Answer (Option Extent)) (n m : ℕ) (whole : Counted (Option Extent)) (p : Place) (r : ExtentRead) (x : Extent)
-    → reading (extentAt rd b) (sought a n) (runOf b q s) ≡ whole → s .found ≡ At p → extentTold r ≡ extentAt rd b p → r ≡ ExtentRead.Got x → z ≡ kept a n x → m ≡ n - 1
-    → runOf b q t ≡ left b q (s .cursor) (s .nodes) → reading (extentAt rd b) (sought z m) (runOf b q t) ≡ whole
-extent-next rd b q s t a z n m whole p r x inv f h g k l d = place-next (extentAt rd b) b q s a n whole inv x z m p t f (extent-was r (extentAt rd b p) h x g) k l d
+pub extent-done : (b : List ℕ) (v : Volume) (id place n : ℕ) (q : Search) (t : Step) (x : ExtentAt) (r : ExtentFound) → q ≡ searchOf v id 8 → r ≡ record { extent = x; nodes = n }
+    → after n (extentPlaced x) ≡ placed place (listOf (extentAt (q .reader) b) (runAt b q t (t .from))) → extentFound r ≡ placed place (listOf (extentAt (v .reader) b) (runAt b (searchOf v id 8) t (t .from)))
+extent-done b v id place n q t x r e h g = rw h (rw e at g)
 
-pub extent-done : (b : List ℕ) (v : Volume) (id place s n : ℕ) (q : Search) (x : ExtentAt) (r : ExtentFound) → q ≡ searchOf v id 8 → r ≡ record { extent = x; nodes = n }
-    → after n (extentPlaced x) ≡ placed place (listOf (extentAt (v .reader) b) (scanOf b q s)) → extentFound r ≡ placed place (extentsOf b v id s)
+pub extent-whole : (b : List ℕ) (v : Volume) (id place n : ℕ) (q : Search) (t : Step) (r : ExtentFound) → q ≡ searchOf v id 8 → Begins b q t (scanOf b q n)
+    → extentFound r ≡ placed place (listOf (extentAt (v .reader) b) (runAt b (searchOf v id 8) t (t .from))) → extentFound r ≡ placed place (extentsOf b v id n)
 unfolding extentsOf
-extent-done b v id place s n q x r e h g = rw h (rw e at g)
+extent-whole b v id place n q t r e h g = rw (rw e at (h .run)) at g
 
 -- the extents of a file
 module _ (b : List ℕ) (v : Volume) (i : Inode) (place s : ℕ) (r : ExtentFound) where
@@ -133,6 +188,10 @@ module _ (b : List ℕ) (v : Volume) (i : Inode) (place s : ℕ) (r : ExtentFoun
 
 pub ruleset stored = (all, extents-compressed, extents-stored)
 
-pub ruleset turns = (all, size-less, place-start, place-end, list-refused, list-no, entry-was, entry-was-no, entry-done, attribute-was, attribute-was-no, attribute-done, extent-was, extent-was-no, extent-done)
+pub ruleset shows = (all, show-got, show-fault, show-passed, show-end, show-no, entry-was, entry-was-no, attribute-was, attribute-was-no, extent-was, extent-was-no)
+
+pub ruleset seens = (entry-over, entry-passed, entry-one, entry-refused, attribute-over, attribute-passed, attribute-one, attribute-refused, extent-over, extent-passed, extent-one, extent-refused)
+
+pub ruleset turns = (all, seens, less-at, less-passed, list-no, list-passed, place-start, place-over, place-more, place-here, entry-done, attribute-done, extent-done)
 
 pub ruleset keeps = (keeping, entry-nothing, entry-some, entry-none, attribute-nothing, attribute-some, attribute-none, extent-nothing, extent-some, extent-none)

@@ -1,3 +1,4 @@
 pub mod Lists
 pub mod Inner
+pub mod Seen
 pub mod Told

@@ -1,16 +1,18 @@
 // The attributes of an id, by place (fs.rs, `xattrs`).
-use crate::tree::fewer;
+use crate::seen::AttributeIn;
+use crate::seen::attribute_in;
 use crate::tree::search;
-use btree::Found;
+use cursor::Step;
 use cursor::first;
 use cursor::next;
 use error::Refusal;
 use records::Attribute;
-use records::AttributeRead;
 use volume::Volume;
 ghost use mathlib.Core.Path.{_≡_};
+ghost use Rattle.cursor.specs.Left.{runAt};
+ghost use Rattle.records.specs.Attribute.{attributeAt};
 ghost use Rattle.lists.specs.Told.{attributePlaced, attributeFound};
-ghost use Rattle.lists.specs.Lists.{placed, attributesOf};
+ghost use Rattle.lists.specs.Lists.{searchOf, listOf, placed, attributesOf};
 ghost use Rattle.lists.specs.Inner.{kept};
 
 // Nothing: the place is past the list's end.
@@ -35,45 +37,51 @@ fn found(x: AttributeAt, nodes: u64) -> AttributeFound
     }
 }
 
-// What is kept of the list with one element more, of which `left` are still to be passed.
-fn kept_with(so_far: AttributeAt, left: u64, x: Attribute) -> AttributeAt
-    ensures { λ r. ⌜ attributePlaced r ≡ kept (attributePlaced «so_far») left x ⌝ }
+// What is kept once x is at the place, or behind it.
+fn kept_with(so_far: AttributeAt, x: Attribute) -> AttributeAt
+    ensures { λ r. ⌜ attributePlaced r ≡ kept (attributePlaced «so_far») 0 x ⌝ }
 {
     match so_far {
-        AttributeAt::Nothing => {
-            if left == 0 {
-                return AttributeAt::At(x);
-            }
-            AttributeAt::Nothing
-        }
+        AttributeAt::Nothing => AttributeAt::At(x),
         AttributeAt::At(y) => AttributeAt::At(y),
         AttributeAt::No(e) => AttributeAt::No(e),
     }
 }
 
-// The whole list is read, whichever place is asked.
+// The whole list from a step on is read, whichever place is asked.
+pub fn attribute_from(image: &[u8], v: Volume, id: u64, place: u64, start: Step) -> AttributeFound
+    ensures { λ r. ⌜ attributeFound r ≡ placed place (listOf (attributeAt (v .reader) (now (image .entry))) (runAt (now (image .entry)) (searchOf v id 4) start (start .from))) ⌝ }
+{
+    let q = search(v, id, 4);
+    let mut kept = AttributeAt::Nothing;
+    let mut left = place;
+    let mut s = start;
+    let mut i = s.from;
+    loop {
+        let at = s.reached;
+        match attribute_in(image, q, at, i) {
+            AttributeIn::Over => return found(kept, s.nodes),
+            AttributeIn::No(e) => return found(AttributeAt::No(e), s.nodes),
+            AttributeIn::Passed => {
+                let c = s.path;
+                s = next(image, q, c, s.level, s.nodes);
+                i = s.from;
+            }
+            AttributeIn::At(x, after) => {
+                i = after;
+                if 0 < left {
+                    left -= 1;
+                } else {
+                    kept = kept_with(kept, x);
+                }
+            }
+        }
+    }
+}
+
 pub fn attribute_at(image: &[u8], v: Volume, id: u64, place: u64, nodes: u64) -> AttributeFound
     ensures { λ r. ⌜ attributeFound r ≡ placed place (attributesOf (now (image .entry)) v id nodes) ⌝ }
 {
-    let q = search(v, id, 4);
-    let reader = v.reader;
-    let mut kept = AttributeAt::Nothing;
-    let mut left = place;
-    let mut s = first(image, q, nodes);
-    loop {
-        let at = s.found;
-        match at {
-            Found::End => return found(kept, s.nodes),
-            Found::No(e) => return found(AttributeAt::No(e), s.nodes),
-            Found::At(p) => match records::attribute_at(reader, image, p) {
-                AttributeRead::No(e) => return found(AttributeAt::No(e), s.nodes),
-                AttributeRead::Got(x) => {
-                    kept = kept_with(kept, left, x);
-                    left = fewer(left);
-                    let c = s.cursor;
-                    s = next(image, q, c, s.nodes);
-                }
-            },
-        }
-    }
+    let start = first(image, search(v, id, 4), nodes);
+    attribute_from(image, v, id, place, start)
 }

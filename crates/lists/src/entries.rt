@@ -1,16 +1,18 @@
 // The directory entries of an id, by place (fs.rs, `read_dir`).
-use crate::tree::fewer;
+use crate::seen::EntryIn;
+use crate::seen::entry_in;
 use crate::tree::search;
-use btree::Found;
+use cursor::Step;
 use cursor::first;
 use cursor::next;
 use error::Refusal;
 use records::Entry;
-use records::EntryRead;
 use volume::Volume;
 ghost use mathlib.Core.Path.{_≡_};
+ghost use Rattle.cursor.specs.Left.{runAt};
+ghost use Rattle.records.specs.Directory.{entryAt};
 ghost use Rattle.lists.specs.Told.{entryPlaced, entryFound};
-ghost use Rattle.lists.specs.Lists.{placed, entriesOf};
+ghost use Rattle.lists.specs.Lists.{searchOf, listOf, placed, entriesOf};
 ghost use Rattle.lists.specs.Inner.{kept};
 
 // Nothing: the place is past the list's end.
@@ -35,45 +37,51 @@ fn found(x: EntryAt, nodes: u64) -> EntryFound
     }
 }
 
-// What is kept of the list with one element more, of which `left` are still to be passed.
-fn kept_with(so_far: EntryAt, left: u64, x: Entry) -> EntryAt
-    ensures { λ r. ⌜ entryPlaced r ≡ kept (entryPlaced «so_far») left x ⌝ }
+// What is kept once x is at the place, or behind it.
+fn kept_with(so_far: EntryAt, x: Entry) -> EntryAt
+    ensures { λ r. ⌜ entryPlaced r ≡ kept (entryPlaced «so_far») 0 x ⌝ }
 {
     match so_far {
-        EntryAt::Nothing => {
-            if left == 0 {
-                return EntryAt::At(x);
-            }
-            EntryAt::Nothing
-        }
+        EntryAt::Nothing => EntryAt::At(x),
         EntryAt::At(y) => EntryAt::At(y),
         EntryAt::No(e) => EntryAt::No(e),
     }
 }
 
-// The whole list is read, whichever place is asked.
+// The whole list from a step on is read, whichever place is asked.
+pub fn entry_from(image: &[u8], v: Volume, id: u64, place: u64, start: Step) -> EntryFound
+    ensures { λ r. ⌜ entryFound r ≡ placed place (listOf (entryAt (v .reader) (now (image .entry))) (runAt (now (image .entry)) (searchOf v id 9) start (start .from))) ⌝ }
+{
+    let q = search(v, id, 9);
+    let mut kept = EntryAt::Nothing;
+    let mut left = place;
+    let mut s = start;
+    let mut i = s.from;
+    loop {
+        let at = s.reached;
+        match entry_in(image, q, at, i) {
+            EntryIn::Over => return found(kept, s.nodes),
+            EntryIn::No(e) => return found(EntryAt::No(e), s.nodes),
+            EntryIn::Passed => {
+                let c = s.path;
+                s = next(image, q, c, s.level, s.nodes);
+                i = s.from;
+            }
+            EntryIn::At(x, after) => {
+                i = after;
+                if 0 < left {
+                    left -= 1;
+                } else {
+                    kept = kept_with(kept, x);
+                }
+            }
+        }
+    }
+}
+
 pub fn entry_at(image: &[u8], v: Volume, id: u64, place: u64, nodes: u64) -> EntryFound
     ensures { λ r. ⌜ entryFound r ≡ placed place (entriesOf (now (image .entry)) v id nodes) ⌝ }
 {
-    let q = search(v, id, 9);
-    let reader = v.reader;
-    let mut kept = EntryAt::Nothing;
-    let mut left = place;
-    let mut s = first(image, q, nodes);
-    loop {
-        let at = s.found;
-        match at {
-            Found::End => return found(kept, s.nodes),
-            Found::No(e) => return found(EntryAt::No(e), s.nodes),
-            Found::At(p) => match records::entry_at(reader, image, p) {
-                EntryRead::No(e) => return found(EntryAt::No(e), s.nodes),
-                EntryRead::Got(x) => {
-                    kept = kept_with(kept, left, x);
-                    left = fewer(left);
-                    let c = s.cursor;
-                    s = next(image, q, c, s.nodes);
-                }
-            },
-        }
-    }
+    let start = first(image, search(v, id, 9), nodes);
+    entry_from(image, v, id, place, start)
 }

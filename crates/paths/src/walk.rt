@@ -5,18 +5,18 @@ use crate::choose::weigh;
 use crate::names::name_rule;
 use crate::split::next_part;
 use crate::split::part_after;
-use btree::Found;
 use bytes::part;
 use cursor::first;
 use cursor::next;
 use error::Refusal;
 use inode_record::InodeRead;
+use lists::EntryIn;
 use lists::InodeFound;
+use lists::entry_in;
 use lists::inode;
 use lists::root;
 use lists::search;
 use records::EntryRead;
-use records::entry_at;
 use records::entry_name;
 use utf8::is_utf8;
 use volume::Volume;
@@ -40,7 +40,7 @@ fn chosen(entry: EntryRead, nodes: u64) -> EntryChosen
 }
 
 // The entry of a directory that a part names. The whole list is read, so that a fault behind the entry counts.
-fn entry_in(image: &[u8], v: Volume, id: u64, part: &[u8], nodes: u64) -> EntryChosen
+fn entry_named(image: &[u8], v: Volume, id: u64, part: &[u8], nodes: u64) -> EntryChosen
     ensures { λ r. ⌜ entryChosen r ≡ entryIn (now (image .entry)) v id (now (part .entry)) nodes ⌝ }
 {
     let q = search(v, id, 9);
@@ -48,19 +48,21 @@ fn entry_in(image: &[u8], v: Volume, id: u64, part: &[u8], nodes: u64) -> EntryC
     let rule = name_rule(v);
     let mut choice = none_yet(rule, part);
     let mut s = first(image, q, nodes);
+    let mut i = s.from;
     loop {
-        let at = s.found;
-        match at {
-            Found::End => return chosen(settle(choice), s.nodes),
-            Found::No(e) => return chosen(EntryRead::No(e), s.nodes),
-            Found::At(p) => match entry_at(reader, image, p) {
-                EntryRead::No(e) => return chosen(EntryRead::No(e), s.nodes),
-                EntryRead::Got(x) => {
-                    choice = weigh(rule, choice, entry_name(reader, image, x), part, x);
-                    let c = s.cursor;
-                    s = next(image, q, c, s.nodes);
-                }
-            },
+        let at = s.reached;
+        match entry_in(image, q, at, i) {
+            EntryIn::Over => return chosen(settle(choice), s.nodes),
+            EntryIn::No(e) => return chosen(EntryRead::No(e), s.nodes),
+            EntryIn::Passed => {
+                let c = s.path;
+                s = next(image, q, c, s.level, s.nodes);
+                i = s.from;
+            }
+            EntryIn::At(x, after) => {
+                choice = weigh(rule, choice, entry_name(reader, image, x), part, x);
+                i = after;
+            }
         }
     }
 }
@@ -69,7 +71,7 @@ fn entry_in(image: &[u8], v: Volume, id: u64, part: &[u8], nodes: u64) -> EntryC
 fn enter(image: &[u8], v: Volume, id: u64, part: &[u8], nodes: u64) -> InodeFound
     ensures { λ r. ⌜ inodeFound r ≡ partInode (now (image .entry)) v (now (part .entry)) id nodes ⌝ }
 {
-    let found = entry_in(image, v, id, part, nodes);
+    let found = entry_named(image, v, id, part, nodes);
     let entry = found.entry;
     match entry {
         EntryRead::Got(e) => inode(image, v, e.file_id, found.nodes),

@@ -11,19 +11,17 @@ use Rattle.error.specs.declared.Refusal.{Refusal}
 use Rattle.error.specs.declared.Refusal.the-variants.{Corrupt}
 use Rattle.error.proofs.Laws.{at-most, above, same, other}
 use Rattle.lookup.specs.Counted.{Counted, after, onto}
-use Rattle.btree.specs.Scan.{scanOf}
+use Rattle.btree.specs.Scan.{Run, scanOf}
 use Rattle.btree.specs.declared.entries.Search.{Search}
 use Rattle.btree.specs.declared.entries.Place.{Place}
-use Rattle.btree.specs.declared.entries.Found.the-variants.{At, End}
-use Rattle.cursor.specs.Left.{left, runOf}
-use Rattle.cursor.specs.declared.Step.{Step}
+use Rattle.cursor.specs.Left.{runAt, inStep}
+use Rattle.cursor.specs.declared.steps.Step.{Step}
 use Rattle.volume.specs.declared.Volume.{Volume}
-use Rattle.obj.specs.declared.reader.Reader.{Reader}
-use Rattle.records.specs.Extent.{extentTold, extentAt}
+use Rattle.records.specs.Extent.{extentAt}
 use Rattle.records.specs.declared.extent.Extent.{Extent}
-use Rattle.records.specs.declared.extent.ExtentRead.{ExtentRead}
 use Rattle.lists.specs.Lists.{searchOf, listOf, extentsOf}
-use Rattle.lists.proofs.Reading.{reading, list-start, list-end, list-next}
+use Rattle.lists.specs.Seen.{Seen, over, element, seenIn}
+use Rattle.lists.proofs.Reading.{reading, list-start, list-over, list-at}
 use Rattle.lists.proofs.Turns as list-turns
 use Rattle.extents.specs.Verdict.{Verdict, fine, _>>_}
 use Rattle.extents.specs.Extents.{Disk, diskOf, blocks, countedIn, lies}
@@ -136,19 +134,18 @@ unfolding settling settle
 settling-end d size (got tt) pos = refl
 settling-end d size (no w) pos = refl
 
-module _ (rd : Reader) (b : List ℕ) (q : Search) (s : Step) (d : Disk) (size : ℕ) where
-  pub settle-start : (n : ℕ) → runOf b q s ≡ scanOf b q n → reading (extentAt rd b) (settling d size fine 0) (runOf b q s) ≡ (onto (listOf (extentAt rd b) (scanOf b q n)) λ es t. after t (settle d size 0 es))
+module _ (g : Place → Answer Extent) (d : Disk) (size : ℕ) where
+  pub settle-start : (r n : Run) → r ≡ n → reading g (settling d size fine 0) r ≡ (onto (listOf g n) λ es t. after t (settle d size 0 es))
   unfolding settling
-  settle-start n e = list-start (extentAt rd b) (settling d size fine 0) b q s n e
+  settle-start r n e = rw e (list-start g (settling d size fine 0) n)
 
-  module _ (v : Verdict) (pos : ℕ) (whole : Counted (Unit {0})) (inv : reading (extentAt rd b) (settling d size v pos) (runOf b q s) ≡ whole) where
-    pub settle-end : s .found ≡ End → after (s .nodes) v ≡ whole
-    settle-end e = ap (after (s .nodes)) (sym (settling-end d size v pos)) ∙ list-end (extentAt rd b) (settling d size v pos) b q s whole inv e
+  module _ (b : List ℕ) (q : Search) (s : Step) (i : ℕ) (x : Seen Extent) (t : x ≡ seenIn g (inStep b q (s .reached) i))
+      (v : Verdict) (pos : ℕ) (whole : Counted (Unit {0})) (inv : reading g (settling d size v pos) (runAt b q s i) ≡ whole) where
+    pub settle-end : x ≡ over → after (s .nodes) v ≡ whole
+    settle-end e = ap (after (s .nodes)) (sym (settling-end d size v pos)) ∙ list-over g b q s i x t (settling d size v pos) whole inv e
 
-    pub settle-next : (t : Step) (z : Verdict) (m : ℕ) (p : Place) (r : ExtentRead) (e : Extent) → s .found ≡ At p → extentTold r ≡ extentAt rd b p → r ≡ ExtentRead.Got e
-        → z ≡ (v >> stepVerdict d size pos e) → m ≡ nextPos size pos e → runOf b q t ≡ left b q (s .cursor) (s .nodes) → reading (extentAt rd b) (settling d size z m) (runOf b q t) ≡ whole
-    settle-next t z m p r e f h g k l u =
-        list-next (extentAt rd b) (settling d size v pos) b q s whole inv p f (settling d size z m) e t (list-turns.extent-was r (extentAt rd b p) h e g) (settling-next d size v z pos m e k l) u
+    pub settle-next : (z : Verdict) (m : ℕ) (e : Extent) (a : ℕ) → x ≡ element e a → z ≡ (v >> stepVerdict d size pos e) → m ≡ nextPos size pos e → reading g (settling d size z m) (runAt b q s a) ≡ whole
+    settle-next z m e a h k l = list-at g b q s i x t (settling d size v pos) whole inv (settling d size z m) e a h (settling-next d size v z pos m e k l)
 
 -- what settling refuses is what the stream refuses
 settled-one : (n : ℕ) (v : Verdict) (x : List ℕ) → (onto (after n (v >> got x)) λ bs t. after t fine) ≡ after n v
@@ -165,7 +162,7 @@ unfolding settledOf settledBy streamOf
 settled-is b v object size s = settled-from (diskOf (v .reader) b) size (extentsOf b v object s .nodes) (extentsOf b v object s .answer)
 
 pub settle-done : (b : List ℕ) (v : Volume) (object size s n : ℕ) (q : Search) (x : Ruling) (r : Settled) → q ≡ searchOf v object 8 → r ≡ record { ruling = x; nodes = n }
-    → after n (ruled x) ≡ (onto (listOf (extentAt (v .reader) b) (scanOf b q s)) λ es t. after t (settle (diskOf (v .reader) b) size 0 es)) → settledTold r ≡ settledOf b v object size s
+    → after n (ruled x) ≡ (onto (listOf (extentAt (q .reader) b) (scanOf b q s)) λ es t. after t (settle (diskOf (v .reader) b) size 0 es)) → settledTold r ≡ settledOf b v object size s
 unfolding settledBy extentsOf
 settle-done b v object size s n q x r e h g = rw h (rw e at g) ∙ sym (settled-is b v object size s)
 
@@ -173,4 +170,4 @@ pub ruleset all = (list-turns.turns, blocks-fit, wanted-is, within-size, pos-fit
 
 pub ruleset steps = (all, ready-sparse, ready-no, ready-none, ready-lies, step-past, step-over, step-ready, after-fine, after-no)
 
-pub ruleset settles = (all, settle-start, settle-end, settle-done)
+pub ruleset settles = (all, settle-start, settle-end, settle-next, settle-done)

@@ -4,12 +4,12 @@ use mathlib.Core.Path.{_≡_, refl, ap, _∙_}
 use mathlib.Core.List.{List, [], _∷_, _++_}
 use native.Mathlib.Omega.{arith}
 use native.Mathlib.Nat.{div-lt-iff-lt-mul, le-div-iff-mul-le}
-use mathlib.Core.Logic.{_⊎_, inl, inr}
+use mathlib.Core.Logic.{_⊎_, inl, inr, ⊎-elim}
 use Rattle.extents.proofs.Verdicts.{le-or-gt}
-use Rattle.obj.specs.declared.reader.Reader.{Reader}
 use lib.ListN.{length, drop, replicate, drop-of-length-le}
 use mir.Syntax.{w64}
 use mir.Val.{Fits}
+use Rattle.error.specs.Answer.{Answer}
 use Rattle.error.specs.declared.Refusal.{Refusal}
 use Rattle.error.proofs.Laws.{at-most, above}
 use Rattle.bytes.specs.Part.{partOf}
@@ -20,15 +20,14 @@ use Rattle.text.proofs.Writing.{puts-append, stopped}
 use Rattle.btree.specs.Scan.{scanOf}
 use Rattle.btree.specs.declared.entries.Search.{Search}
 use Rattle.btree.specs.declared.entries.Place.{Place}
-use Rattle.btree.specs.declared.entries.Found.the-variants.{At, End, No}
-use Rattle.cursor.specs.Left.{left, runOf}
-use Rattle.cursor.specs.declared.Step.{Step}
-use Rattle.cursor.proofs.Through.{run-at, run-end, run-no}
+use Rattle.cursor.specs.Left.{left, runAt, inStep, Begins}
+use Rattle.cursor.specs.declared.steps.Step.{Step}
 use Rattle.volume.specs.declared.Volume.{Volume}
-use Rattle.records.specs.Extent.{extentTold, extentAt}
+use Rattle.records.specs.Extent.{extentAt}
 use Rattle.records.specs.declared.extent.Extent.{Extent}
-use Rattle.records.specs.declared.extent.ExtentRead.{ExtentRead}
 use Rattle.lists.specs.Lists.{searchOf}
+use Rattle.lists.specs.Seen.{Seen, over, passed, element, refusal, seenIn}
+use Rattle.lists.proofs.Reading.{run-over, run-element, run-refusal, run-on}
 use Rattle.extents.specs.Extents.{Disk, diskOf}
 use Rattle.streams.specs.Inner.{taken, wantedOf, nextPos, stepBytes, runBytes, streamBytes}
 use Rattle.streams.proofs.StreamLaws.{taken-sparse, taken-real}
@@ -98,36 +97,47 @@ module _ (d : Disk) (size pos : ℕ) (e : Extent) (room : ℕ) (o : Output) wher
       pairs-then room o p (replicate g 0) qp (taken d e w) z qz
       ∙ ap (λ (x : List ℕ). puts room (pairs x []) o) (above _ _ _ _ _ h (rw (qg, qa, qw)))
 
--- the turns of the writing loop
-pub pour-start : (room : ℕ) (rd : Reader) (b : List ℕ) (q : Search) (s : Step) (d : Disk) (size n : ℕ) (o : Output) → runOf b q s ≡ scanOf b q n
-    → puts room (pairs (runBytes (extentAt rd b) d size 0 (runOf b q s)) []) o ≡ puts room (pairs (runBytes (extentAt rd b) d size 0 (scanOf b q n)) []) o
-pour-start room rd b q s d size n o e = rw e
+-- the bytes of what is left, by what was seen
+module _ (g : Place → Answer Extent) (d : Disk) (size pos : ℕ) (b : List ℕ) (q : Search) (s : Step) (i : ℕ) (x : Seen Extent) (t : x ≡ seenIn g (inStep b q (s .reached) i)) where
+  pub bytes-over : x ≡ over → runBytes g d size pos (runAt b q s i) ≡ replicate (size - pos) 0
+  unfolding runBytes
+  bytes-over e = rw (run-over g b q s i x t e)
 
-module _ (room : ℕ) (rd : Reader) (b : List ℕ) (q : Search) (s : Step) (d : Disk) (size pos : ℕ) (o w : Output) where
-  module _ (inv : puts room (pairs (runBytes (extentAt rd b) d size pos (runOf b q s)) []) o ≡ w) where
-    pub pour-end : (n : ℕ) (z : Output) → s .found ≡ End → n ≡ size - pos → z ≡ puts room (pairs (replicate n 0) []) o → z ≡ w
-    unfolding runBytes
-    pour-end n z e k g = rw k at g ∙ (rw (run-end b q s e) at inv)
+  pub bytes-no : (w : Refusal) → x ≡ refusal w → runBytes g d size pos (runAt b q s i) ≡ []
+  unfolding runBytes
+  bytes-no w e = ⊎-elim (λ h. rw h) (λ h. rw (h .3, h .2)) (run-refusal g b q s i x t w e)
 
-    pub pour-refused : (x : Refusal) → s .found ≡ No x → o ≡ w
-    unfolding runBytes
-    pour-refused x e = no-bytes room o ∙ (rw (run-no b q s x e) at inv)
+  pub bytes-at : (y : Extent) (a : ℕ) → x ≡ element y a → runBytes g d size pos (runAt b q s i) ≡ stepBytes d size pos y ++ runBytes g d size (nextPos size pos y) (runAt b q s a)
+  unfolding runBytes
+  bytes-at y a e = let m = run-element g b q s i x t y a e in rw (m .2, m .1)
 
-    module _ (p : Place) (e : s .found ≡ At p) (r : ExtentRead) (h : extentTold r ≡ extentAt rd b p) where
-      pub pour-no : (x : Refusal) → r ≡ ExtentRead.No x → o ≡ w
-      unfolding runBytes
-      pour-no x g = no-bytes room o ∙ (rw (run-at b q s p e, ← h, g) at inv)
+  pub bytes-passed : (n : Step) → x ≡ passed → Begins b q n (left b q (s .path) (s .level) (s .nodes)) → runBytes g d size pos (runAt b q n (n .from)) ≡ runBytes g d size pos (runAt b q s i)
+  bytes-passed n e h = ap (runBytes g d size pos) (run-on g b q s i x t n e h)
 
-      pub pour-next : (x : Extent) (t : Step) (m : ℕ) (z : Output) → r ≡ ExtentRead.Got x → z ≡ puts room (pairs (stepBytes d size pos x) []) o → m ≡ nextPos size pos x
-          → runOf b q t ≡ left b q (s .cursor) (s .nodes) → puts room (pairs (runBytes (extentAt rd b) d size m (runOf b q t)) []) z ≡ w
-      unfolding runBytes
-      pour-next x t m z g k l u =
-          pairs-past room o z (stepBytes d size pos x) k _ w (rw (l, u) (rw (run-at b q s p e, ← h, g) at inv))
+  -- the turns of the writing loop
+  module _ (room : ℕ) (o w : Output) (inv : puts room (pairs (runBytes g d size pos (runAt b q s i)) []) o ≡ w) where
+    pub pour-end : (n : ℕ) (z : Output) → x ≡ over → n ≡ size - pos → z ≡ puts room (pairs (replicate n 0) []) o → z ≡ w
+    pour-end n z e k h = rw k at h ∙ (rw (bytes-over e) at inv)
 
-pub pour-done : (room : ℕ) (b : List ℕ) (v : Volume) (object size s : ℕ) (q : Search) (o z : Output) → q ≡ searchOf v object 8
-    → z ≡ puts room (pairs (runBytes (extentAt (v .reader) b) (diskOf (v .reader) b) size 0 (scanOf b q s)) []) o → z ≡ puts room (pairs (streamBytes b v object size s) []) o
+    pub pour-no : (v : Refusal) → x ≡ refusal v → o ≡ w
+    pour-no v e = no-bytes room o ∙ (rw (bytes-no v e) at inv)
+
+    pub pour-next : (y : Extent) (a m : ℕ) (z : Output) → x ≡ element y a → z ≡ puts room (pairs (stepBytes d size pos y) []) o → m ≡ nextPos size pos y
+        → puts room (pairs (runBytes g d size m (runAt b q s a)) []) z ≡ w
+    pour-next y a m z e k l = pairs-past room o z (stepBytes d size pos y) k _ w (rw l (rw (bytes-at y a e) at inv))
+
+    pub pour-passed : (n : Step) → x ≡ passed → Begins b q n (left b q (s .path) (s .level) (s .nodes)) → puts room (pairs (runBytes g d size pos (runAt b q n (n .from))) []) o ≡ w
+    pour-passed n e h = rw (bytes-passed n e h) inv
+
+pub pour-done : (room : ℕ) (b : List ℕ) (v : Volume) (object size : ℕ) (q : Search) (s : Step) (o z : Output) → q ≡ searchOf v object 8
+    → z ≡ puts room (pairs (runBytes (extentAt (q .reader) b) (diskOf (v .reader) b) size 0 (runAt b q s (s .from))) []) o
+    → z ≡ puts room (pairs (runBytes (extentAt (v .reader) b) (diskOf (v .reader) b) size 0 (runAt b (searchOf v object 8) s (s .from))) []) o
+pour-done room b v object size q s o z e h = rw e at h
+
+pub pour-whole : (room : ℕ) (b : List ℕ) (v : Volume) (object size n : ℕ) (q : Search) (s : Step) (o z : Output) → q ≡ searchOf v object 8 → Begins b q s (scanOf b q n)
+    → z ≡ puts room (pairs (runBytes (extentAt (v .reader) b) (diskOf (v .reader) b) size 0 (runAt b (searchOf v object 8) s (s .from))) []) o → z ≡ puts room (pairs (streamBytes b v object size n) []) o
 unfolding streamBytes
-pour-done room b v object size s q o z e h = rw e at h
+pour-whole room b v object size n q s o z e g h = rw (rw e at (g .run)) at h
 
 pub ruleset begin = (laws.all, begins-past, begins-in, begins-fits)
 
@@ -135,4 +145,4 @@ pub ruleset zeros = (laws.all, stopped, zeros-end, zeros-next)
 
 pub ruleset pours = (laws.all, zeros-taken, part-taken, step-none, step-some)
 
-pub ruleset pouring = (laws.all, stopped, pour-start, pour-end, pour-refused, pour-no, pour-next, pour-done)
+pub ruleset pouring = (laws.all, stopped, pour-end, pour-no, pour-next, pour-passed, pour-done)

@@ -4,6 +4,7 @@ mod settle;
 mod step;
 
 pub use pour::begins;
+pub use pour::put_stream_from;
 pub use pour::put_stream_hex;
 pub use settle::Settled;
 pub use settle::settle_stream;

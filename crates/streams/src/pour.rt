@@ -2,19 +2,19 @@
 use crate::step::less;
 use crate::step::next_pos;
 use crate::step::wanted;
-use btree::Found;
 use bytes::Span;
 use bytes::part;
+use cursor::Step;
 use cursor::first;
 use cursor::next;
 use error::Refusal;
 use extents::block_size;
 use extents::smaller;
+use lists::ExtentIn;
+use lists::extent_in;
 use lists::search;
 use obj::Reader;
 use records::Extent;
-use records::ExtentRead;
-use records::extent_at;
 use text::Position;
 use text::put_hex;
 use volume::Volume;
@@ -24,8 +24,11 @@ ghost use Prim.Native.Nat.{_*_, min, max};
 ghost use lib.ListN.{length, replicate};
 ghost use Rattle.text.specs.Output.{outputOf, puts};
 ghost use Rattle.text.specs.Words.{pairs};
+ghost use Rattle.cursor.specs.Left.{runAt};
+ghost use Rattle.records.specs.Extent.{extentAt};
+ghost use Rattle.lists.specs.Lists.{searchOf};
 ghost use Rattle.extents.specs.Extents.{diskOf};
-ghost use Rattle.streams.specs.Inner.{taken, stepBytes, streamBytes};
+ghost use Rattle.streams.specs.Inner.{taken, stepBytes, runBytes, streamBytes};
 
 // n zero bytes.
 fn write_zeros(out: &mut [u8], room: usize, p: Position, n: u64) -> Position
@@ -115,7 +118,47 @@ fn put_step(
     put_taken(out, room, q, image, reader, e, wanted(size, e))
 }
 
-// All bytes of a stream; what an unread extent would give is left out.
+// All bytes of a stream, its extents from a step on; what an unread extent would give is left out.
+pub fn put_stream_from(
+    out: &mut [u8],
+    room: usize,
+    p: Position,
+    image: &[u8],
+    v: Volume,
+    object: u64,
+    size: u64,
+    start: Step,
+) -> Position
+    ensures { λ r. ⌜ outputOf r (now (out .exit)) ≡ puts room (pairs (runBytes (extentAt (v .reader) (now (image .entry))) (diskOf (v .reader) (now (image .entry))) size 0 (runAt (now (image .entry)) (searchOf v object 8) start (start .from))) []) (outputOf p (now (out .entry))) ⌝ }
+{
+    let q = search(v, object, 8);
+    let reader = v.reader;
+    let mut o = p;
+    let mut pos: u64 = 0;
+    let mut s = start;
+    let mut i = s.from;
+    loop {
+        if let Position::No(w) = o {
+            return Position::No(w);
+        }
+        let at = s.reached;
+        match extent_in(image, q, at, i) {
+            ExtentIn::Over => return put_zeros(out, room, o, less(size, pos)),
+            ExtentIn::No(_) => return o,
+            ExtentIn::Passed => {
+                let c = s.path;
+                s = next(image, q, c, s.level, s.nodes);
+                i = s.from;
+            }
+            ExtentIn::At(e, after) => {
+                o = put_step(out, room, o, image, reader, size, pos, e);
+                pos = next_pos(size, pos, e);
+                i = after;
+            }
+        }
+    }
+}
+
 pub fn put_stream_hex(
     out: &mut [u8],
     room: usize,
@@ -128,28 +171,6 @@ pub fn put_stream_hex(
 ) -> Position
     ensures { λ r. ⌜ outputOf r (now (out .exit)) ≡ puts room (pairs (streamBytes (now (image .entry)) v object size nodes) []) (outputOf p (now (out .entry))) ⌝ }
 {
-    let q = search(v, object, 8);
-    let reader = v.reader;
-    let mut o = p;
-    let mut pos: u64 = 0;
-    let mut s = first(image, q, nodes);
-    loop {
-        if let Position::No(w) = o {
-            return Position::No(w);
-        }
-        let at = s.found;
-        match at {
-            Found::End => return put_zeros(out, room, o, less(size, pos)),
-            Found::No(_) => return o,
-            Found::At(p) => match extent_at(reader, image, p) {
-                ExtentRead::No(_) => return o,
-                ExtentRead::Got(e) => {
-                    o = put_step(out, room, o, image, reader, size, pos, e);
-                    pos = next_pos(size, pos, e);
-                    let c = s.cursor;
-                    s = next(image, q, c, s.nodes);
-                }
-            },
-        }
-    }
+    let start = first(image, search(v, object, 8), nodes);
+    put_stream_from(out, room, p, image, v, object, size, start)
 }

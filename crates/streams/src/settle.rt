@@ -1,15 +1,14 @@
 // Whether a stream can be read: no byte is written before all is decided.
 use crate::step::next_pos;
 use crate::step::step_at;
-use btree::Found;
 use cursor::first;
 use cursor::next;
 use extents::Ruling;
+use lists::ExtentIn;
+use lists::extent_in;
 use lists::search;
 use obj::Reader;
 use records::Extent;
-use records::ExtentRead;
-use records::extent_at;
 use volume::Volume;
 ghost use mathlib.Core.Path.{_≡_};
 ghost use Rattle.extents.specs.Extents.{diskOf};
@@ -58,20 +57,22 @@ pub fn settle_stream(image: &[u8], v: Volume, object: u64, size: u64, nodes: u64
     let mut ruling = Ruling::Fine;
     let mut pos: u64 = 0;
     let mut s = first(image, q, nodes);
+    let mut i = s.from;
     loop {
-        let at = s.found;
-        match at {
-            Found::End => return with_nodes(ruling, s.nodes),
-            Found::No(w) => return with_nodes(Ruling::No(w), s.nodes),
-            Found::At(p) => match extent_at(reader, image, p) {
-                ExtentRead::No(w) => return with_nodes(Ruling::No(w), s.nodes),
-                ExtentRead::Got(e) => {
-                    ruling = step_after(ruling, image, reader, size, pos, e);
-                    pos = next_pos(size, pos, e);
-                    let c = s.cursor;
-                    s = next(image, q, c, s.nodes);
-                }
-            },
+        let at = s.reached;
+        match extent_in(image, q, at, i) {
+            ExtentIn::Over => return with_nodes(ruling, s.nodes),
+            ExtentIn::No(w) => return with_nodes(Ruling::No(w), s.nodes),
+            ExtentIn::Passed => {
+                let c = s.path;
+                s = next(image, q, c, s.level, s.nodes);
+                i = s.from;
+            }
+            ExtentIn::At(e, after) => {
+                ruling = step_after(ruling, image, reader, size, pos, e);
+                pos = next_pos(size, pos, e);
+                i = after;
+            }
         }
     }
 }

@@ -9,7 +9,6 @@ unfolding orderOf
 order-of-spec =
     tie.close
     (tie.spec
-    (λ c. search needs)
     (λ c. search all)
     (λ c. search all)
     (λ c. search all)

@@ -3,7 +3,7 @@ use mathlib.Core.Path.{_≡_}
 use borrow.Author.Needs.{needs}
 use Rattle.btree.specs.Scan.{Tail, nth}
 use Rattle.btree.specs.Inner.{each, child, walk}
-use Rattle.btree.proofs.Nth.{indexes, nodes, made-left, turn-done}
+use Rattle.btree.proofs.Nth.{indexes, index-less, nodes, made-left, turn-over}
 use borrow.Fn.Kinds.{In}
 use borrow.Fn.PlainCycle.{Measures, is, falls, and}
 use Rattle.btree.proofs.skip.pass_child.Reads as pass-child
@@ -12,7 +12,7 @@ use Rattle.btree.proofs.skip.+pass_child+pass_node.Lts-pass_child as pa
 use Rattle.btree.proofs.skip.pass_node.Reads as pass-node
 use Rattle.btree.proofs.skip.pass_node.Kinds as pass-node-kinds
 use Rattle.btree.proofs.skip.+pass_child+pass_node.Lts-pass_node as pass-node-lts
-use Rattle.btree.proofs.entries.decide.Reads as decide-reads
+use Rattle.btree.proofs.seek.next_child.Reads as next-child-reads
 use Rattle.btree.proofs.skip.pass_leaf.Reads as pass-leaf-reads
 use Rattle.btree.proofs.skip.pass_of.Reads as pass-of-reads
 use Rattle.btree.proofs.skip.+pass_child+pass_node.{statement}
@@ -74,8 +74,8 @@ pub +pass-child+pass-node-spec : {M : Type 1} → statement M
     λ t. pass-node-lts.spec (
       pass-leaf-reads.Asked,
       pass-leaf-reads.Learnt,
-      decide-reads.Asked,
-      decide-reads.Learnt,
+      next-child-reads.Asked,
+      next-child-reads.Learnt,
       pass-of-reads.Asked,
       pass-of-reads.Learnt,
       pass-child-below t,
@@ -91,51 +91,45 @@ pub +pass-child+pass-node-spec : {M : Type 1} → statement M
     (λ c. λ k. let p = c .pass-leaf .ensures (c .before .before .before .before .args .nodes) (k (c .before .before .before .before .args .nodes)) in search nodes)
     -- pass-node-loop-holds
     (λ c. λ k. search nodes)
-    -- pass-node-decide-requires
+    -- pass-node-next-child-requires
     (λ c κs. search needs)
-    -- pass-node-add-i
-    (λ c. search needs)
     -- pass-node-enum-told
     (λ c. search needs)
     -- pass-node-pass-of-requires
     (λ c κs. search needs)
     -- pass-node-returns-2
-    (λ c. λ k. let p = c .before .before .before .before .before .before .loop .inv k in search indexes)
+    (λ c. λ k. made-left _ _ _ _ _ (c .pass-of .ensures) (turn-over _ _ _ _ _ _ k _ _ (c .before .before .before .before .loop .inv k) _ (c .before .before .before .next-child .ensures) (search needs)))
     -- pass-node-enum-told-2
     (λ c. search needs)
-    -- pass-node-loop-less
-    (λ c. search needs)
-    -- pass-node-loop-again
-    (λ c. λ k. let p = c .before .before .before .before .before .loop .inv k in search indexes)
+    -- pass-node-pass-of-requires-2
+    (λ c κs. search needs)
+    -- pass-node-returns-3
+    (λ c. λ k. let p = c .before .before .before .before .loop .inv k in search indexes)
     -- pass-node-enum-known-turn
     (λ c. search needs)
     -- pass-node-pass-child-requires
     (λ c κs. search needs)
     -- pass-node-enum-told-3
     (λ c. search needs)
-    -- pass-node-returns-3
-    (λ c. λ k. let p = c .before .before .before .before .before .before .before .before .before .loop .inv k in search indexes)
+    -- pass-node-returns-4
+    (λ c. λ k. let p = c .before .before .before .before .before .before .before .loop .inv k in search indexes)
     -- pass-node-enum-known-pass
     (λ c. search needs)
-    -- pass-node-loop-less-2
-    (λ c. search needs)
-    -- pass-node-loop-again-2
-    (λ c. λ k. let p = c .before .before .before .before .before .before .before .before .before .before .loop .inv k in search indexes)
+    -- pass-node-loop-less
+    (λ c. search (needs, index-less))
+    -- pass-node-loop-again
+    (λ c. λ k. let p = c .before .before .before .before .before .before .before .before .loop .inv k in search indexes)
     -- pass-node-enum-told-4
     (λ c. search needs)
-    -- pass-node-returns-4
-    (λ c. λ k. let p = c .before .before .before .before .before .before .before .before .before .loop .inv k in search indexes)
+    -- pass-node-returns-5
+    (λ c. λ k. let p = c .before .before .before .before .before .before .before .loop .inv k in search indexes)
     -- pass-node-enum-told-5
     (λ c. search needs)
-    -- pass-node-returns-5
-    (λ c. λ k. let p = c .before .before .before .before .before .before .before .before .before .loop .inv k in search indexes)
-    -- pass-node-enum-known-turn-2
-    (λ c. search needs)
-    -- pass-node-pass-of-requires-2
-    (λ c κs. search needs)
     -- pass-node-returns-6
     (λ c. λ k. let p = c .before .before .before .before .before .before .before .loop .inv k in search indexes)
+    -- pass-node-enum-known-turn-2
+    (λ c. search needs)
     -- pass-node-pass-of-requires-3
     (λ c κs. search needs)
     -- pass-node-returns-7
-    (λ c. λ k. made-left _ _ _ _ _ (c .pass-of3 .ensures) (turn-done _ _ _ _ _ _ k _ _ (c .before .before .before .loop .inv k) (search needs)))
+    (λ c. λ k. let p = c .before .before .before .before .before .loop .inv k in search indexes)

@@ -1,22 +1,23 @@
+use Rattle.lists.proofs.Turns.{seens}
 use mathlib.Core.Path.{_≡_}
 use lib.ListN.{length}
 use Rattle.text.specs.Output.{outputOf}
-use Rattle.btree.specs.Scan.{scanOf}
-use Rattle.btree.proofs.Places.{size}
-use Rattle.cursor.specs.Left.{runOf}
+use Rattle.cursor.specs.Left.{runAt}
+use Rattle.cursor.proofs.Through.{rest}
 use Rattle.records.specs.Attribute.{attributeAt}
-use Rattle.lists.specs.Lists.{searchOf}
-use Rattle.forms.specs.Inner.{run, readable, attributeTraces}
+use Rattle.lists.specs.Inner.{readable}
 use borrow.Author.Needs.{needs}
+use Rattle.forms.specs.Inner.{run, attributeTraces}
 use Rattle.forms.proofs.Walking.{walks, attributes-next}
 use Rattle.forms.proofs.attributes.put_attributes.Statement.{statement}
 use Rattle.forms.proofs.attributes.put_attributes.Tie as tie
 
 abbrev Inv-loop : tie.InvT-loop
-Inv-loop out₀ room image v id q reader o₀ s₀ out o s = (run room (attributeTraces image v (readable (attributeAt (v .reader) image) (runOf image q s))) (outputOf o out) ≡ run room (attributeTraces image v (readable (attributeAt (v .reader) image) (scanOf image (searchOf v id 4) 0))) (outputOf o₀ out₀)) × (length out ≡ length out₀)
+Inv-loop out₀ room image v id q o₀ s₀ i₀ out o s i =
+    (run room (attributeTraces image v (readable (attributeAt (q .reader) image) (runAt image q s i))) (outputOf o out) ≡ run room (attributeTraces image v (readable (attributeAt (q .reader) image) (runAt image q s₀ i₀))) (outputOf o₀ out₀)) × (length out ≡ length out₀)
 
 abbrev μ-loop : tie.MeasureT-loop
-μ-loop out₀ room image v id q reader o₀ s₀ out o s = size (runOf image q s)
+μ-loop out₀ room image v id q o₀ s₀ i₀ out o s i = rest image q s i
 
 pub put-attributes-spec : {M : Type 1} → statement M
 put-attributes-spec =
@@ -25,7 +26,6 @@ put-attributes-spec =
     Inv-loop
     μ-loop
     (λ c κs. search needs)
-    (λ c κs. search needs)
     (λ c. search walks)
     (λ c. search walks)
     (λ c. search walks)
@@ -36,7 +36,13 @@ put-attributes-spec =
     (λ c. search walks)
     (λ c. search walks)
     (λ c. search walks)
-    (λ c κs. search needs)
+    (λ c. search walks)
+    (λ c. search walks)
+    (λ c. search walks)
     (λ c κs. search needs)
     (λ c. search walks)
-    (λ c. (search (attributes-next), search needs)))
+    (λ c. search walks)
+    (λ c. search walks)
+    (λ c κs. search needs)
+    (λ c. search walks)
+    (λ c. (attributes-next _ _ (c .before .before .before .before .before .before .before .before .before .before .before .before .before .before .args .v) _ _ _ _ _ (c .before .before .before .before .before .before .before .before .before .before .loop .inv .0) _ (c .before .before .before .before .before .before .before .attribute-in .ensures) _ _ _ (search seens) (c .before .before .put-attribute .ensures), search needs)))

@@ -1,5 +1,5 @@
-use borrow.Author.Needs.{needs}
 use Rattle.forms.proofs.Lines.{all}
+use borrow.Author.Needs.{needs}
 use Rattle.forms.proofs.contents_line.put_plain.Statement.{statement}
 use Rattle.forms.proofs.contents_line.put_plain.Tie as tie
 
@@ -7,6 +7,8 @@ pub put-plain-spec : {M : Type 1} → statement M
 put-plain-spec =
     tie.close
     (tie.spec
+    (λ c κs. search needs)
+    (λ c κs. search needs)
     (λ c κs. search needs)
     (λ c. search needs)
     (λ c κs. search needs)

@@ -1,5 +1,5 @@
+use Rattle.forms.proofs.Heads.{heads, head-all}
 use borrow.Author.Needs.{needs}
-use Rattle.forms.proofs.Heads.{heads}
 use Rattle.forms.proofs.head.put_head.Statement.{statement}
 use Rattle.forms.proofs.head.put_head.Tie as tie
 
@@ -15,5 +15,7 @@ put-head-spec =
     (λ c κs. search needs)
     (λ c κs. search needs)
     (λ c κs. search needs)
+    (λ c κs. search needs)
+    (λ c κs. search needs)
     (λ c. search needs)
-    (λ c. search heads))
+    (λ c. head-all _ _ (c .before .before .before .before .before .before .before .before .before .before .before .before .before .before .before .before .before .before .before .before .args .v) _ _ _ _ _ (c .before .before .before .before .before .before .before .before .before .before .before .before .before .before .before .put-node-line .ensures) _ _ _ _ _ (c .before .before .before .before .before .before .before .before .before .before .search .ensures) (c .before .before .before .before .before .before .before .before .before .first .ensures) (c .before .before .before .before .before .before .before .before .read-lists .ensures) (c .before .before .before .before .before .before .put-attributes .ensures) (c .before .before .put-data .ensures)))

@@ -4,16 +4,17 @@ use mathlib.Core.List.{map}
 use lib.ListN.{length}
 use borrow.Author.Needs.{needs}
 use Rattle.text.specs.Output.{outputOf}
-use Rattle.btree.specs.Scan.{scanOf}
-use Rattle.btree.proofs.Places.{size}
-use Rattle.cursor.specs.Left.{runOf}
+use Rattle.cursor.specs.Left.{runAt}
+use Rattle.cursor.proofs.Through.{rest}
 use Rattle.records.specs.Directory.{entryAt}
-use Rattle.lists.specs.Lists.{searchOf}
+use Rattle.lists.specs.Inner.{readable}
+use Rattle.lists.proofs.Turns.{seens}
 use Rattle.lines.specs.Shown.{entryShown}
 use Rattle.demand.specs.Listing.{entryForms, nodeForm}
 use Rattle.demand.specs.Demand.{viewOf}
-use Rattle.forms.specs.Inner.{run, readable}
+use Rattle.forms.specs.Inner.{run}
 use Rattle.listing.proofs.Laws.{nodes, node-whole, entries-next, some-left, less-left}
+use Rattle.lists.proofs.Reading.{readable-over, readable-no}
 use borrow.Fn.Kinds.{In}
 use borrow.Fn.PlainCycle.{Measures, is, falls, and}
 use Rattle.listing.proofs.writers.put_entry.Reads as put-entry
@@ -26,8 +27,8 @@ use Rattle.cursor.proofs.first.Reads as first-reads
 use Rattle.cursor.proofs.next.Reads as next-reads
 use Rattle.forms.proofs.put_head.Reads as put-head-reads
 use Rattle.forms.proofs.refuse.Reads as refuse-reads
-use Rattle.forms.proofs.look_entry.Reads as look-entry-reads
 use Rattle.lines.proofs.put_entry_line.Reads as put-entry-line-reads
+use Rattle.lists.proofs.entry_in.Reads as entry-in-reads
 use Rattle.lists.proofs.inode.Reads as inode-reads
 use Rattle.lists.proofs.search.Reads as search-reads
 use Rattle.text.proofs.put_all.Reads as put-all-reads
@@ -55,13 +56,13 @@ put-node-below t =
     and 2 put-node-kinds.ps (falls 2 put-node-kinds.ps _<_ μ-put-node t) put-node.Pre
 
 abbrev put-node-Inv-loop : put-node-lts.InvT-loop
-put-node-Inv-loop out₀ room image v id levels reader q o₀ s₀ t19 out o s =
-    (run room (entryForms (nodeForm (viewOf image v) (levels - 1)) (map (entryShown (v .reader) image) (readable (entryAt (v .reader) image) (runOf image q s)))) (outputOf o out)
-    ≡ run room (entryForms (nodeForm (viewOf image v) (levels - 1)) (map (entryShown (v .reader) image) (readable (entryAt (v .reader) image) (scanOf image (searchOf v id 9) 0)))) (outputOf o₀ out₀))
+put-node-Inv-loop out₀ room image v id levels q s₀ o₀ k₀ t23 t27 out s o k =
+    (run room (entryForms (nodeForm (viewOf image v) (levels - 1)) (map (entryShown (v .reader) image) (readable (entryAt (q .reader) image) (runAt image q s k)))) (outputOf o out)
+    ≡ run room (entryForms (nodeForm (viewOf image v) (levels - 1)) (map (entryShown (v .reader) image) (readable (entryAt (q .reader) image) (runAt image q s₀ k₀)))) (outputOf o₀ out₀))
     × (length out ≡ length out₀)
 
 abbrev put-node-μ-loop : put-node-lts.MeasureT-loop
-put-node-μ-loop out₀ room image v id levels reader q o₀ s₀ t19 out o s = size (runOf image q s)
+put-node-μ-loop out₀ room image v id levels q s₀ o₀ k₀ t23 t27 out s o k = rest image q s k
 
 pub +put-entry+put-node-spec : {M : Type 1} → statement M
 +put-entry+put-node-spec = close μ-put-entry μ-put-node (λ t. put-entry-lts.spec (
@@ -101,18 +102,18 @@ pub +put-entry+put-node-spec : {M : Type 1} → statement M
       inode-reads.Learnt,
       search-reads.Asked,
       search-reads.Learnt,
-      put-head-reads.Asked,
-      put-head-reads.Learnt,
       first-reads.Asked,
       first-reads.Learnt,
-      look-entry-reads.Asked,
-      look-entry-reads.Learnt,
+      put-head-reads.Asked,
+      put-head-reads.Learnt,
+      entry-in-reads.Asked,
+      entry-in-reads.Learnt,
       put-all-reads.Asked,
       put-all-reads.Learnt,
-      put-entry-below t,
-      put-entry.Post,
       next-reads.Asked,
       next-reads.Learnt,
+      put-entry-below t,
+      put-entry.Post,
     )
     (put-node-at t)
     put-node.Post
@@ -132,13 +133,13 @@ pub +put-entry+put-node-spec : {M : Type 1} → statement M
     (λ c. search nodes)
     -- put-node-search-requires
     (λ c κs. search needs)
-    -- put-node-put-head-requires
-    (λ c κs. search needs)
     -- put-node-first-requires
+    (λ c κs. search needs)
+    -- put-node-put-head-requires
     (λ c κs. search needs)
     -- put-node-loop-holds
     (λ c. search nodes)
-    -- put-node-look-entry-requires
+    -- put-node-entry-in-requires
     (λ c κs. search needs)
     -- put-node-enum-told
     (λ c. search nodes)
@@ -149,18 +150,34 @@ pub +put-entry+put-node-spec : {M : Type 1} → statement M
     -- put-node-same-length
     (λ c. search nodes)
     -- put-node-returns-2
-    (λ c. node-whole _ _ _ _ _ _ _ (c .before .before .before .before .before .before .before .before .before .before .before .before .before .before .before .before .before .before .before .before .if1 .left) _ (c .before .before .before .before .before .before .before .before .before .before .before .before .before .before .before .before .before .before .before .inode .ensures) _ _ _ _ _ _ (c .before .before .before .before .before .before .before .before .before .before .before .before .before .before .before .before .before .read2 .given .1) (c .before .before .before .before .before .before .before .before .before .before .before .before .put-head .ensures) (c .before .before .before .before .before .before .before .before .loop .inv .0) (c .before .before .before .before .before .before .before .look-entry .ensures) (c .before .before .before .before .before .enum-told .given .1) (c .before .before .put-all .ensures))
-    -- put-node-enum-known-e
+    (λ c. node-whole _ _ (c .before .before .before .before .before .before .before .before .before .before .before .before .before .before .before .before .before .before .before .before .before .before .args .v) _ _ _ _ (c .before .before .before .before .before .before .before .before .before .before .before .before .before .before .before .before .before .before .before .if1 .left) _ (c .before .before .before .before .before .before .before .before .before .before .before .before .before .before .before .before .before .before .inode .ensures) _ _ _ _ _ _ _ (c .before .before .before .before .before .before .before .before .before .before .before .before .before .before .before .before .read2 .given .1) (c .before .before .before .before .before .before .before .before .before .before .before .before .before .before .search .ensures) (c .before .before .before .before .before .before .before .before .before .before .before .before .before .first .ensures) (c .before .before .before .before .before .before .before .before .before .before .before .put-head .ensures) (c .before .before .before .before .before .before .before .before .loop .inv .0) (search (needs, seens, readable-over)) (c .before .before .put-all .ensures))
+    -- put-node-enum-told-2
     (λ c. search nodes)
-    -- put-node-sub-put-entry
-    (λ c. some-left _ (c .before .before .before .before .before .before .before .before .before .before .before .before .before .before .before .before .before .if1 .left))
-    -- put-node-put-entry-requires
-    (λ c κs. (less-left _ _ (c .before .before .before .before .before .before .before .before .before .before .before .before .before .before .before .before .before .if1 .left) (c .before .before .before .before .before .before .before .before .before .before .before .before .before .before .before .before .before .before .before .before .pre .0), tt))
+    -- put-node-slice-aggregate-put-all-2
+    (λ c. search nodes)
+    -- put-node-put-all-requires-2
+    (λ c κs. search needs)
+    -- put-node-same-length-2
+    (λ c. search nodes)
+    -- put-node-returns-3
+    (λ c. node-whole _ _ (c .before .before .before .before .before .before .before .before .before .before .before .before .before .before .before .before .before .before .before .before .before .before .args .v) _ _ _ _ (c .before .before .before .before .before .before .before .before .before .before .before .before .before .before .before .before .before .before .before .if1 .left) _ (c .before .before .before .before .before .before .before .before .before .before .before .before .before .before .before .before .before .before .inode .ensures) _ _ _ _ _ _ _ (c .before .before .before .before .before .before .before .before .before .before .before .before .before .before .before .before .read2 .given .1) (c .before .before .before .before .before .before .before .before .before .before .before .before .before .before .search .ensures) (c .before .before .before .before .before .before .before .before .before .before .before .before .before .first .ensures) (c .before .before .before .before .before .before .before .before .before .before .before .put-head .ensures) (c .before .before .before .before .before .before .before .before .loop .inv .0) (search (needs, seens, readable-no)) (c .before .before .put-all2 .ensures))
+    -- put-node-enum-told-3
+    (λ c. search nodes)
     -- put-node-next-requires
     (λ c κs. search needs)
     -- put-node-loop-less
     (λ c. search nodes)
     -- put-node-loop-again
-    (λ c. (search (entries-next), search needs))
-    -- put-node-returns-3
+    (λ c. search nodes)
+    -- put-node-enum-known-e
+    (λ c. search nodes)
+    -- put-node-sub-put-entry
+    (λ c. some-left _ (c .before .before .before .before .before .before .before .before .before .before .before .before .before .before .before .before .if1 .left))
+    -- put-node-put-entry-requires
+    (λ c κs. (less-left _ _ (c .before .before .before .before .before .before .before .before .before .before .before .before .before .before .before .before .if1 .left) (c .before .before .before .before .before .before .before .before .before .before .before .before .before .before .before .before .before .before .before .pre .0), tt))
+    -- put-node-loop-less-2
+    (λ c. search nodes)
+    -- put-node-loop-again-2
+    (λ c. (entries-next _ _ _ (c .before .before .before .before .before .before .before .before .before .before .before .before .before .before .before .before .before .before .before .before .before .before .args .v) _ _ _ _ _ (c .before .before .before .before .before .before .before .before .loop .inv .0) _ (c .before .before .before .before .before .before .before .entry-in .ensures) _ _ _ (search seens) (c .before .before .put-entry .ensures), search needs))
+    -- put-node-returns-4
     (λ c. search (nodes, c .refuse2 .ensures))

@@ -1,0 +1,107 @@
+-- A leaf's records one after the other: what is left of a leaf is its first record and what is left behind it.
+use Prim.Native.Nat.{ℕ, zero, suc, _+_, _-_, _≤_, _<_}
+use mathlib.Core.Path.{_≡_, refl, sym, ap, _∙_}
+use mathlib.Core.List.{List}
+use native.Mathlib.Omega.{arith}
+use borrow.Author.Needs.{needs}
+use Rattle.error.specs.Answer.{Answer, got, no}
+use Rattle.error.specs.declared.Refusal.{Refusal}
+use Rattle.node.specs.declared.layout.Node.{Node}
+use Rattle.node.specs.declared.layout.Info.{Info}
+use Rattle.btree.specs.Entries.{bytesOf, Leaf, passOver, endScan, recordAt, itemTold, itemIn, itemAt}
+use Rattle.btree.specs.Scan.{Run, more}
+use Rattle.btree.specs.Inner.{leafThen, leafFrom, itemThen, inLeaf, inNode, inThen}
+use Rattle.btree.specs.declared.entries.Search.{Search}
+use Rattle.btree.specs.declared.entries.Place.{Place}
+use Rattle.btree.specs.declared.entries.Item.{Item}
+use Rattle.btree.specs.declared.entries.Item.the-variants as item
+use Rattle.btree.specs.declared.leaf.InLeaf.{InLeaf}
+use Rattle.btree.specs.declared.leaf.InLeaf.the-variants.{At, Passed, End, No}
+
+-- the turns of the loop that looks for the first record
+module _ (b : List ℕ) (m : Node) (info : Info) (id kind i : ℕ) (whole : InLeaf) (p : inLeaf b m info id kind (m .nkeys - i) i ≡ whole) where
+  pub in-done : m .nkeys ≤ i → Passed ≡ whole
+  unfolding inLeaf
+  in-done h = let n : m .nkeys - i ≡ 0 = omega arith in rw n at p
+
+  module _ (lt : i < m .nkeys) (r : Item) (t : itemTold r ≡ itemIn b m info id kind i) where
+    goes : itemThen (itemTold r) (i + 1) (inLeaf b m info id kind (m .nkeys - (i + 1)) (i + 1)) ≡ whole
+    unfolding inLeaf
+    goes = let n : m .nkeys - i ≡ suc (m .nkeys - (i + 1)) = omega arith in rw t (rw n at p)
+
+    pub in-pass : r ≡ item.Pass → inLeaf b m info id kind (m .nkeys - (i + 1)) (i + 1) ≡ whole
+    in-pass e = rw e at goes
+
+    pub in-stop : r ≡ item.Stop → End ≡ whole
+    in-stop e = rw e at goes
+
+    pub in-at : (x : Place) → r ≡ item.At x → At x (i + 1) ≡ whole
+    in-at x e = rw e at goes
+
+    pub in-no : (w : Refusal) → r ≡ item.No w → No w ≡ whole
+    in-no w e = rw e at goes
+
+pub ruleset inside = (needs, in-done, in-pass, in-stop, in-at, in-no)
+
+-- the first record that an entry, or what comes after it, gives
+module _ (b : List ℕ) (q : Search) (m : Node) (n i : ℕ) (h : suc n ≡ m .nkeys - i) where
+  abbrev later : InLeaf
+  later = inLeaf (bytesOf b q m) m (q .info) (q .id) (q .kind) n (i + 1)
+
+  leaf-step : (s : ℕ) (k : Run) (a : Answer Leaf) → leafFrom b q m n (i + 1) s k ≡ inThen b q m later s k →
+      leafThen a s (leafFrom b q m n (i + 1) s k) ≡ inThen b q m (itemThen a (i + 1) later) s k
+  unfolding leafThen
+  leaf-step s k (got passOver) e = e
+  leaf-step s k (got endScan) e = refl
+  leaf-step s k (got (recordAt p)) e = let j : n ≡ m .nkeys - (i + 1) = omega arith in ap (λ (x : ℕ). more p s (leafFrom b q m x (i + 1) s k)) j
+  leaf-step s k (no w) e = refl
+
+  bound-step : (p : Place) (a : ℕ) (x : Answer Leaf) → (later ≡ At p a → (i + 1 < a) × (a ≤ m .nkeys)) → itemThen x (i + 1) later ≡ At p a → (i < a) × (a ≤ m .nkeys)
+  bound-step p a (got passOver) e g = (omega (arith, e g), omega (arith, e g))
+  bound-step p a (got endScan) e g = absurd (let z : _≡_ {A = ℕ} 0 1 = cc in omega arith)
+  bound-step p a (got (recordAt y)) e g = let z : i + 1 ≡ a = cc in (omega arith, omega arith)
+  bound-step p a (no w) e g = absurd (let z : _≡_ {A = ℕ} 0 1 = cc in omega arith)
+
+  back-step : (p : Place) (a : ℕ) (x : Answer Leaf) → itemAt b q m i ≡ x → (later ≡ At p a → inNode b q m (a - 1) ≡ At p a) → itemThen x (i + 1) later ≡ At p a → inNode b q m (a - 1) ≡ At p a
+  unfolding inLeaf
+  back-step p a (got passOver) t e g = e g
+  back-step p a (got endScan) t e g = absurd (let z : _≡_ {A = ℕ} 0 1 = cc in omega arith)
+  back-step p a (got (recordAt y)) t e g =
+      let z : i + 1 ≡ a = cc in
+      let j : a - 1 ≡ i = omega arith in
+      rw (j, ← h, t) g
+  back-step p a (no w) t e g = absurd (let z : _≡_ {A = ℕ} 0 1 = cc in omega arith)
+
+module _ (b : List ℕ) (q : Search) (m : Node) where
+  leaf-by : (n i s : ℕ) (k : Run) → n ≡ m .nkeys - i → leafFrom b q m n i s k ≡ inThen b q m (inLeaf (bytesOf b q m) m (q .info) (q .id) (q .kind) n i) s k
+  unfolding leafFrom inLeaf
+  leaf-by zero i s k h = refl
+  leaf-by (suc n) i s k h = leaf-step b q m n i h s k (itemAt b q m i) (leaf-by n (i + 1) s k (omega arith))
+
+  bound-by : (n i : ℕ) (p : Place) (a : ℕ) → n ≡ m .nkeys - i → inLeaf (bytesOf b q m) m (q .info) (q .id) (q .kind) n i ≡ At p a → (i < a) × (a ≤ m .nkeys)
+  unfolding inLeaf
+  bound-by zero i p a h e = absurd (let z : _≡_ {A = ℕ} 0 1 = cc in omega arith)
+  bound-by (suc n) i p a h e = bound-step b q m n i h p a (itemAt b q m i) (bound-by n (i + 1) p a (omega arith)) e
+
+  back-by : (n i : ℕ) (p : Place) (a : ℕ) → n ≡ m .nkeys - i → inLeaf (bytesOf b q m) m (q .info) (q .id) (q .kind) n i ≡ At p a → inNode b q m (a - 1) ≡ At p a
+  unfolding inLeaf
+  back-by zero i p a h e = absurd (let z : _≡_ {A = ℕ} 0 1 = cc in omega arith)
+  back-by (suc n) i p a h e = back-step b q m n i h p a (itemAt b q m i) refl (back-by n (i + 1) p a (omega arith)) e
+
+  pub leaf-in : (i s : ℕ) (k : Run) → leafFrom b q m (m .nkeys - i) i s k ≡ inThen b q m (inNode b q m i) s k
+  leaf-in i s k = leaf-by (m .nkeys - i) i s k refl
+
+  -- the entry after a record lies behind, and within the leaf; looking from the record's own entry finds it again
+  pub in-bound : (i : ℕ) (p : Place) (a : ℕ) → inNode b q m i ≡ At p a → (i < a) × (a ≤ m .nkeys)
+  in-bound i p a e = bound-by (m .nkeys - i) i p a refl e
+
+  pub in-back : (i : ℕ) (p : Place) (a : ℕ) → inNode b q m i ≡ At p a → inNode b q m (a - 1) ≡ At p a
+  in-back i p a e = back-by (m .nkeys - i) i p a refl e
+
+  -- so what is left from the record's entry on is what is left
+  pub leaf-jump : (i s : ℕ) (k : Run) (p : Place) (a : ℕ) → inNode b q m i ≡ At p a → leafFrom b q m (m .nkeys - (a - 1)) (a - 1) s k ≡ leafFrom b q m (m .nkeys - i) i s k
+  leaf-jump i s k p a e = leaf-in (a - 1) s k ∙ (ap (λ (x : InLeaf). inThen b q m x s k) (in-back i p a e ∙ sym e) ∙ sym (leaf-in i s k))
+
+-- where the block was read as a list s that is u
+pub in-of : (s u : List ℕ) (m : Node) (info : Info) (id kind n i : ℕ) (z : InLeaf) → s ≡ u → z ≡ inLeaf s m info id kind n i → z ≡ inLeaf u m info id kind n i
+in-of s u m info id kind n i z e h = rw e at h
