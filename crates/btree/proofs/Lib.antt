@@ -5,5 +5,6 @@ pub mod Nth
 pub mod Parts
 pub mod Places
 pub mod Reaching
+pub mod Higher
 pub mod Seeking
 pub mod Turns

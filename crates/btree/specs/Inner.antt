@@ -3,8 +3,9 @@
 use Prim.Native.Nat.{ℕ, zero, suc, _+_, _-_, _≤_, _<_}
 use mathlib.Core.Path.{_≡_}
 use mathlib.Core.List.{List}
+use mathlib.Core.Bool.{Bool, true, false}
 use mathlib.Core.Option.{Option, none, some}
-use Rattle.error.specs.Answer.{Answer, got, no, ifEq}
+use Rattle.error.specs.Answer.{Answer, got, no, ifLe, ifEq}
 use Rattle.error.specs.declared.Refusal.the-variants.{Corrupt}
 use Rattle.node.specs.Node.{leafBit}
 use Rattle.node.specs.declared.layout.Node.{Node}
@@ -14,7 +15,7 @@ use Rattle.node.specs.declared.layout.Parsed.the-variants as parsed
 use Rattle.lookup.specs.Counted.{Counted, after}
 use Rattle.lookup.specs.Path.{counted}
 use Rattle.lookup.specs.Read.{nodeAt}
-use Rattle.btree.specs.Entries.{bytesOf, orderIn, Leaf, passOver, endScan, recordAt, itemIn, itemAt, Act, stop, skip, into, enterAt, turnAt}
+use Rattle.btree.specs.Entries.{bytesOf, orderIn, orderAt, Leaf, passOver, endScan, recordAt, itemIn, itemAt, Act, stop, skip, into, enterAt, turnAt}
 use Rattle.btree.specs.Scan.{Run, more, end, refused, Tail, nth}
 use Rattle.btree.specs.declared.entries.Search.{Search}
 use Rattle.btree.specs.declared.entries.Place.{Place}
@@ -132,11 +133,28 @@ turnThen f b q m turn.Stop i k s = end s
 turnThen f b q m (turn.Into c) i k s = f c (each f b q m (m .nkeys - i) i k) s
 turnThen f b q m (turn.No e) i k s = refused e s
 
+-- the same search for another kind
+abbrev pub kinded : Search → ℕ → Search
+kinded q k = record { reader = q .reader; root = q .root; info = q .info; resolve = q .resolve; id = q .id; kind = k }
+
+abbrev pub notBelow : Answer Order → Bool
+notBelow (got Below) = false
+notBelow (got Inside) = true
+notBelow (got Above) = true
+notBelow (no e) = false
+
+-- whether a child before the i-th entry of an index node is gone into: the entry is not below, or there is none
+unfoldable pub staysAt : List ℕ → Search → Node → ℕ → Bool
+staysAt b q m i = ifLe (m .nkeys) i true (notBelow (orderAt b q m i))
+
 -- r is the next turn of an index node from its i-th entry on, s nodes having been gone through: the node goes on behind a child, which was read
 pub record Reaches (b : List ℕ) (q : Search) (m : Node) (i s : ℕ) (r : Turned) : Type 0 where
   pub course : (f : Node → Tail → Tail) (k : Tail) → turnThen f b q m (r .turn) (r .next) k (r .nodes) ≡ each f b q m (m .nkeys - i) i k s
   pub behind : (c : Node) → r .turn ≡ turn.Into c → (i < r .next) × (r .next ≤ m .nkeys)
   pub known : (c : Node) → r .turn ≡ turn.Into c → nodeAt (q .reader) b (c .block) ≡ got c
+  -- a search of the same id and a greater kind goes into the same child, unless the entry behind it is below
+  pub higher : (c : Node) → r .turn ≡ turn.Into c → (k : ℕ) → q .kind < k → staysAt b (kinded q k) m (r .next) ≡ true →
+      (f : Node → Tail → Tail) (t : Tail) → f c (each f b (kinded q k) m (m .nkeys - r .next) (r .next) t) (r .nodes) ≡ each f b (kinded q k) m (m .nkeys - i) i t s
 
 -- a node from its i-th entry on; a leaf is told by its flag, at any level (btree.rs, `is_leaf`)
 unfoldable pub node : (Node → Tail → Tail) → List ℕ → Search → Node → ℕ → Tail → Tail

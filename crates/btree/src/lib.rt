@@ -20,6 +20,7 @@ pub use seek::Seek;
 pub use seek::Turn;
 pub use seek::Turned;
 pub use seek::next_child;
+pub use seek::stays;
 pub use skip::Pass;
 pub use skip::Passed;
 pub use skip::scan;

@@ -11,7 +11,7 @@ use node::Node;
 use node::Parsed;
 ghost use mathlib.Core.Path.{_≡_};
 ghost use Prim.Native.Nat.{_+_, _-_, _<_};
-ghost use Rattle.btree.specs.Inner.{followIn, seekIn, seekAt, turnOf, Reaches};
+ghost use Rattle.btree.specs.Inner.{followIn, seekIn, seekAt, turnOf, Reaches, staysAt};
 
 // The entry that is gone into, where all of them may be passed, or the scan ends.
 pub enum Seek {
@@ -125,5 +125,29 @@ pub fn next_child(image: &[u8], q: Search, node: Node, from: u32, nodes: u64) ->
         Seek::Stop => turn_made(Turn::Stop, from, nodes),
         Seek::No(e) => turn_made(Turn::No(e), from, nodes),
         Seek::At(i) => into_child(node, i, enter(image, q, node, i, nodes)),
+    }
+}
+
+// Whether a child before an entry of an index node is gone into, and not skipped: the entry is not below, or there is none.
+pub fn stays(image: &[u8], q: Search, node: Node, i: u32) -> bool
+    ensures { λ r. ⌜ r ≡ staysAt (now (image .entry)) q node i ⌝ }
+{
+    if node.nkeys <= i {
+        return true;
+    }
+    match order_in(
+        q.reader.block(image, node.block),
+        node,
+        q.info,
+        q.id,
+        q.kind,
+        i,
+    ) {
+        Ordered::Got(o) => match o {
+            Order::Below => false,
+            Order::Inside => true,
+            Order::Above => true,
+        },
+        Ordered::No(_) => false,
     }
 }

@@ -150,7 +150,7 @@ module _ (x : InPart) where
   final-no w e = rw e tt
 
 module _ (b : List ℕ) (q : Search) (r : PartStep) (k : Tail) (whole : Run) (p : Makes b q r k whole) where
-  kept : (j : Tail) → Final (r .found) → Makes b q r j whole
+  pub kept : (j : Tail) → Final (r .found) → Makes b q r j whole
   unfolding partRun Final
   kept j h = record { run = of (r .found) h ∙ p .run; there = p .there }
     where
@@ -161,7 +161,7 @@ module _ (b : List ℕ) (q : Search) (r : PartStep) (k : Tail) (whole : Run) (p 
       of End f = refl
       of (No w) f = refl
 
-  passed : r .found ≡ Passed → k (r .nodes) ≡ whole
+  pub passed : r .found ≡ Passed → k (r .nodes) ≡ whole
   unfolding partRun
   passed e = rw e at (p .run)
 

@@ -1,2 +1,3 @@
 pub mod Left
 pub mod Through
+pub mod Ways

@@ -2,6 +2,7 @@
 mod path;
 mod steps;
 mod walk;
+mod way;
 
 pub use path::Mark;
 pub use path::Path;
@@ -12,3 +13,7 @@ pub use steps::in_leaf;
 pub use steps::next;
 pub use walk::InPart;
 pub use walk::PartStep;
+pub use way::Way;
+pub use way::begin;
+pub use way::resume;
+pub use way::way_down;

@@ -59,7 +59,7 @@ fn in_whole(found: InPart) -> Reached
     }
 }
 
-fn whole(s: PartStep) -> Step
+pub fn whole(s: PartStep) -> Step
     ensures { λ r. ⌜ r ≡ record { reached = inWhole (s .found); from = s .from; level = s .level; path = s .path; nodes = s .nodes } ⌝ }
 {
     let found = s.found;

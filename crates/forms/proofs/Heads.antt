@@ -158,11 +158,11 @@ module _ (room : ℕ) (b : List ℕ) (v : Volume) (i : Inode) (u : Step) (o : Ou
   pub head-refused : (w : Refusal) → a ≡ No w → refused w ≡ run room (headTrace b v i (runAt b (searchOf v (i .id) 9) u (u .from))) o
   head-refused w e = head-stopped room b v i (scanOf b (searchOf v (i .id) 4) 0) (runAt b (searchOf v (i .id) 9) u (u .from)) o (outputOf a l) h refl w (ap (λ (x : Position). outputOf x l) (sym e))
 
-  pub head-all : (q : Search) (t : Step) (c : Position) (r z : Output) → q ≡ searchOf v (i .id) 4 → Begins b q t (scanOf b q 0) → Tested (listsOf b v (i .id) t u) a c
+  pub head-all : (t : Step) (c : Position) (r z : Output) → Begins b (searchOf v (i .id) 4) t (scanOf b (searchOf v (i .id) 4) 0) → Tested (listsOf b v (i .id) t u) a c
       → r ≡ run room (attributeTraces b v (readable (attributeAt (v .reader) b) (runAt b (searchOf v (i .id) 4) t (t .from)))) (outputOf c l) → z ≡ run room (dataTrace b v i) r
       → z ≡ run room (headTrace b v i (runAt b (searchOf v (i .id) 9) u (u .from))) o
   unfolding Tested listsOf
-  head-all q t c r z e k x f g =
-      head-whole room b v i (runAt b (searchOf v (i .id) 4) t (t .from)) (runAt b (searchOf v (i .id) 9) u (u .from)) o (outputOf a l) h (rw e at (k .run)) (outputOf c l) r z (x l) f g
+  head-all t c r z k x f g =
+      head-whole room b v i (runAt b (searchOf v (i .id) 4) t (t .from)) (runAt b (searchOf v (i .id) 9) u (u .from)) o (outputOf a l) h (k .run) (outputOf c l) r z (x l) f g
 
 pub ruleset heads = (needs, entries-no, entries-at, entries-over, attributes-no, attributes-at, attributes-over, lists-tested, head-refused)

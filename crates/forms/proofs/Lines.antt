@@ -76,6 +76,13 @@ pub packed-line : (room : ℕ) (o z : Output) → z ≡ puts room (ascii "(packe
 unfolding contentsLine
 packed-line room o z h = h
 
+-- where a file's extents begin
+pub own-extents : (b : List ℕ) (v : Volume) (n m k : ℕ) (t : Step) → n ≡ m → Begins b (searchOf v m k) t (scanOf b (searchOf v m k) 0) → Begins b (searchOf v n k) t (scanOf b (searchOf v n k) 0)
+own-extents b v n m k t e g = rw e g
+
+pub other-extents : (b : List ℕ) (v : Volume) (n k : ℕ) (q : Search) (t : Step) → q ≡ searchOf v n k → Begins b q t (scanOf b q 0) → Begins b (searchOf v n k) t (scanOf b (searchOf v n k) 0)
+other-extents b v n k q t e g = rw e at g
+
 -- what is answered once it is settled
 module _ (n : ℕ) (x : Ruling) (bs : List ℕ) (c : Counted (List ℕ)) (p : c ≡ (onto (after n (ruled x)) λ u t. after t (got bs))) where
   settled-got : x ≡ Ruling.Fine → c .answer ≡ got bs
@@ -113,15 +120,15 @@ module _ (room : ℕ) (b : List ℕ) (v : Volume) (a : Attribute) (o z : Output)
 
 module _ (room : ℕ) (b : List ℕ) (v : Volume) (i : Inode) (o z : Output) where
   -- the file's extents are those from a step on
-  module _ (q : Search) (t : Step) (e : q ≡ searchOf v (i .ids .«private_id») 8) (g : Begins b q t (scanOf b q 0)) (r : Settled)
+  module _ (t : Step) (g : Begins b (searchOf v (i .ids .«private_id») 8) t (scanOf b (searchOf v (i .ids .«private_id») 8) 0)) (r : Settled)
       (p : settledTold r ≡ wholeFrom b v i (runAt b (searchOf v (i .ids .«private_id») 8) t (t .from))) where
     whole-ruling : readPlain b v i 0 ≡ (onto (after (r .nodes) (ruled (r .ruling))) λ u t. after t (got (streamBytes b v (i .ids .«private_id») (sizeOf i) 0)))
-    whole-ruling = plain-settled b v i 0 ∙ ap (λ (c : Counted (Unit {0})). onto c λ u t. after t (got (streamBytes b v (i .ids .«private_id») (sizeOf i) 0))) (sym (whole-begun b v i 0 q t r e g p))
+    whole-ruling = plain-settled b v i 0 ∙ ap (λ (c : Counted (Unit {0})). onto c λ u t. after t (got (streamBytes b v (i .ids .«private_id») (sizeOf i) 0))) (sym (whole-begun b v i 0 (searchOf v (i .ids .«private_id») 8) t r refl g p))
 
     pub plain-fine : r .ruling ≡ Ruling.Fine
         → z ≡ puts room (contentsLine (plain (runBytes (extentAt (v .reader) b) (diskOf (v .reader) b) (sizeOf i) 0 (runAt b (searchOf v (i .ids .«private_id») 8) t (t .from)))) []) o → z ≡ run room (plainTrace b v i) o
     unfolding plainTrace streamBytes
-    plain-fine x h = reading-got room _ _ o _ z (settled-got (r .nodes) (r .ruling) _ _ whole-ruling x) (run-says room _ o z (rw (rw e at (g .run)) at h))
+    plain-fine x h = reading-got room _ _ o _ z (settled-got (r .nodes) (r .ruling) _ _ whole-ruling x) (run-says room _ o z (rw (g .run) at h))
 
     pub plain-refused : (w : Refusal) → r .ruling ≡ Ruling.No w → z ≡ ending (stop w) o → z ≡ run room (plainTrace b v i) o
     unfolding plainTrace

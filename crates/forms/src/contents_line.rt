@@ -2,10 +2,12 @@
 use crate::refusing::refuse;
 use contents::settle_whole;
 use cursor::Step;
+use cursor::Way;
 use cursor::first;
 use extents::Ruling;
 use files::size_of;
 use inode_record::Inode;
+use lists::list_on;
 use lists::search;
 use streams::put_stream_from;
 use text::Position;
@@ -17,7 +19,9 @@ ghost use Rattle.text.specs.Output.{outputOf, puts};
 ghost use Rattle.files.specs.File.{sizeOf};
 ghost use Rattle.lines.specs.Shown.{plain};
 ghost use Rattle.lines.specs.Lines.{contentsLine};
-ghost use Rattle.cursor.specs.Left.{runAt};
+ghost use Rattle.btree.specs.Scan.{scanOf};
+ghost use Rattle.cursor.specs.Left.{runAt, Begins};
+ghost use Rattle.cursor.specs.Way.{Leads};
 ghost use Rattle.records.specs.Extent.{extentAt};
 ghost use Rattle.lists.specs.Lists.{searchOf};
 ghost use Rattle.extents.specs.Extents.{diskOf};
@@ -43,6 +47,18 @@ fn put_bytes(
     put_all(out, room, b, b")\n")
 }
 
+// A file's extents go by its private id, which mostly is its own.
+fn extents_on(image: &[u8], v: Volume, i: Inode, w: Way) -> Step
+    requires { ⌜ Leads (now image) (searchOf v (i .id) 3) 0 w ⌝ }
+    ensures { λ r. ⌜ Begins (now (image .entry)) (searchOf v (i .ids .«private_id») 8) r (scanOf (now (image .entry)) (searchOf v (i .ids .«private_id») 8) 0) ⌝ }
+{
+    let ids = i.ids;
+    if ids.private_id == i.id {
+        return list_on(image, v, i.id, 8, w, 0);
+    }
+    first(image, search(v, ids.private_id, 8), 0)
+}
+
 fn put_plain(
     out: &mut [u8],
     room: usize,
@@ -50,16 +66,17 @@ fn put_plain(
     image: &[u8],
     v: Volume,
     i: Inode,
+    w: Way,
 ) -> Position
+    requires { ⌜ Leads (now image) (searchOf v (i .id) 3) 0 w ⌝ }
     ensures { λ r. ⌜ outputOf r (now (out .exit)) ≡ run room (plainTrace (now (image .entry)) v i) (outputOf p (now (out .entry))) ⌝ }
 {
-    let ids = i.ids;
-    let start = first(image, search(v, ids.private_id, 8), 0);
+    let start = extents_on(image, v, i, w);
     let s = settle_whole(image, v, i, start);
     let ruling = s.ruling;
     match ruling {
         Ruling::Fine => put_bytes(out, room, p, image, v, i, start),
-        Ruling::No(w) => refuse(p, w),
+        Ruling::No(e) => refuse(p, e),
     }
 }
 
@@ -70,12 +87,14 @@ pub fn put_data(
     image: &[u8],
     v: Volume,
     i: Inode,
+    w: Way,
 ) -> Position
+    requires { ⌜ Leads (now image) (searchOf v (i .id) 3) 0 w ⌝ }
     ensures { λ r. ⌜ outputOf r (now (out .exit)) ≡ run room (dataTrace (now (image .entry)) v i) (outputOf p (now (out .entry))) ⌝ }
 {
     let owner = i.owner;
     if owner.bsd_flags / 32 % 2 == 1 {
         return put_all(out, room, p, b"(packed)\n");
     }
-    put_plain(out, room, p, image, v, i)
+    put_plain(out, room, p, image, v, i, w)
 }

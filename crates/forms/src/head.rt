@@ -3,19 +3,20 @@ use crate::attributes::put_attributes;
 use crate::contents_line::put_data;
 use crate::refusing::refuse;
 use cursor::Step;
-use cursor::first;
+use cursor::Way;
 use inode_record::Inode;
 use lines::put_node_line;
 use lists::AttributeAt;
 use lists::EntryAt;
 use lists::attribute_from;
 use lists::entry_from;
-use lists::search;
+use lists::list_on;
 use text::Position;
 use volume::Volume;
 ghost use mathlib.Core.Path.{_≡_};
 ghost use Rattle.text.specs.Output.{outputOf};
 ghost use Rattle.cursor.specs.Left.{runAt};
+ghost use Rattle.cursor.specs.Way.{Leads};
 ghost use Rattle.records.specs.Attribute.{attributeAt};
 ghost use Rattle.records.specs.Directory.{entryAt};
 ghost use Rattle.lists.specs.Lists.{searchOf, listOf};
@@ -60,7 +61,7 @@ fn read_lists(
     read_entries(a, image, v, id, entries)
 }
 
-// The entries are those from a step on.
+// On the way down to the inode; the entries are those from a step on.
 pub fn put_head(
     out: &mut [u8],
     room: usize,
@@ -68,17 +69,19 @@ pub fn put_head(
     image: &[u8],
     v: Volume,
     i: Inode,
+    w: Way,
     entries: Step,
 ) -> Position
+    requires { ⌜ Leads (now image) (searchOf v (i .id) 3) 0 w ⌝ }
     ensures { λ r. ⌜ outputOf r (now (out .exit)) ≡ run room (headTrace (now (image .entry)) v i (runAt (now (image .entry)) (searchOf v (i .id) 9) entries (entries .from))) (outputOf p (now (out .entry))) ⌝ }
 {
     let reader = v.reader;
     let a = put_node_line(out, room, p, image, reader, i);
-    if let Position::No(w) = a {
-        return Position::No(w);
+    if let Position::No(e) = a {
+        return Position::No(e);
     }
-    let attributes = first(image, search(v, i.id, 4), 0);
+    let attributes = list_on(image, v, i.id, 4, w, 0);
     let b = read_lists(a, image, v, i.id, attributes, entries);
     let c = put_attributes(out, room, b, image, v, i.id, attributes);
-    put_data(out, room, c, image, v, i)
+    put_data(out, room, c, image, v, i, w)
 }

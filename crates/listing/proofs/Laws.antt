@@ -15,7 +15,9 @@ use Rattle.text.specs.declared.Position.the-variants.{No}
 use Rattle.btree.specs.Scan.{Run, scanOf}
 use Rattle.btree.specs.declared.entries.Search.{Search}
 use Rattle.cursor.specs.Left.{left, runAt, inStep, Begins}
+use Rattle.cursor.specs.Way.{Leads}
 use Rattle.cursor.specs.declared.steps.Step.{Step}
+use Rattle.cursor.specs.declared.way.Way.{Way}
 use Rattle.volume.specs.declared.Volume.{Volume}
 use Rattle.inode_record.specs.Inode.{inodeTold}
 use Rattle.records.specs.Directory.{entryAt}
@@ -37,7 +39,12 @@ use Rattle.lists.proofs.Turns.{seens}
 use Rattle.forms.specs.Inner.{ending, run, headTrace}
 use Rattle.forms.proofs.Running.{run-says, run-refused, run-then, reading-no}
 use Rattle.listing.specs.Inner.{entryForm}
-use Rattle.listing.proofs.Nodes.{begun, node-run}
+use Rattle.listing.proofs.Nodes.{begun, own-way, node-run}
+
+-- the way down to an inode, which has the id that it was found by
+pub inode-way-same : (b : List ℕ) (v : Volume) (id : ℕ) (r : InodeFound) (i : Inode) (w : Way) → inodeFound r ≡ inodeOf b v id 0 → r .inode ≡ InodeRead.Got i →
+    Leads b (searchOf v id 3) 0 w → Leads b (searchOf v (i .id) 3) 0 w
+inode-way-same b v id r i w p q = own-way b v id i (ap (λ (c : Counted Inode). c .answer) (sym p) ∙ ap inodeTold q) w
 
 module _ (room : ℕ) (b : List ℕ) (v : Volume) (id levels : ℕ) (o z : Output) where
   pub node-deep : levels ≡ 0 → z ≡ ending (stop TooDeep) o → z ≡ run room (nodeForm (viewOf b v) levels id) o
@@ -56,7 +63,7 @@ module _ (room : ℕ) (b : List ℕ) (v : Volume) (id levels : ℕ) (o z : Outpu
         rw s (reading-no room (inodeAnswer b v id) _ o w z e h)
 
     -- the head, the loop that ended, and the end of the node
-    pub node-whole : (i : Inode) (x y : Output) (q : Search) (t s : Step) (n : ℕ) → r .inode ≡ InodeRead.Got i → q ≡ searchOf v id 9 → Begins b q t (scanOf b q 0)
+    pub node-whole : (i : Inode) (x y : Output) (q : Search) (t s : Step) (n : ℕ) → r .inode ≡ InodeRead.Got i → q ≡ searchOf v id 9 → Begins b (searchOf v id 9) t (scanOf b (searchOf v id 9) 0)
         → x ≡ run room (headTrace b v i (runAt b (searchOf v (i .id) 9) t (t .from))) o
         → run room (entryForms (nodeForm (viewOf b v) (levels - 1)) (map (entryShown (v .reader) b) (readable (entryAt (q .reader) b) (runAt b q s n)))) y
         ≡ run room (entryForms (nodeForm (viewOf b v) (levels - 1)) (map (entryShown (v .reader) b) (readable (entryAt (q .reader) b) (runAt b q t (t .from))))) x
@@ -65,12 +72,12 @@ module _ (room : ℕ) (b : List ℕ) (v : Volume) (id levels : ℕ) (o z : Outpu
     node-whole i x y q t s n f e g head inv over last =
         let m : levels ≡ suc (levels - 1) = omega arith in
         let u : inodeOf b v id 0 .answer ≡ got i = read-as (InodeRead.Got i) f in
-        let all : readable (entryAt (q .reader) b) (runAt b q t (t .from)) ≡ readable (entryAt (v .reader) b) (scanOf b (searchOf v id 9) 0) = ap (readable (entryAt (q .reader) b)) (g .run) ∙ ap (λ (a : Search). readable (entryAt (a .reader) b) (scanOf b a 0)) e in
+        let all : readable (entryAt (q .reader) b) (runAt b q t (t .from)) ≡ readable (entryAt (v .reader) b) (scanOf b (searchOf v id 9) 0) = ap (λ (a : Search). readable (entryAt (a .reader) b) (runAt b a t (t .from))) e ∙ ap (readable (entryAt (v .reader) b)) (g .run) in
         let there : y ≡ run room (entryForms (nodeForm (viewOf b v) (levels - 1)) (map (entryShown (v .reader) b) (readable (entryAt (v .reader) b) (scanOf b (searchOf v id 9) 0)))) x
         = ap (λ (es : List Entry). run room (entryForms (nodeForm (viewOf b v) (levels - 1)) (map (entryShown (v .reader) b) es)) y) (sym over) ∙ inv
         ∙ ap (λ (es : List Entry). run room (entryForms (nodeForm (viewOf b v) (levels - 1)) (map (entryShown (v .reader) b) es)) x) all in
         last ∙ ap (run room (says (close []))) (there ∙ ap (run room (entryForms (nodeForm (viewOf b v) (levels - 1)) (map (entryShown (v .reader) b) (readable (entryAt (v .reader) b) (scanOf b (searchOf v id 9) 0)))))
-        (head ∙ ap (λ (a : Run). run room (headTrace b v i a) o) (begun b v id i u q t e g)))
+        (head ∙ ap (λ (a : Run). run room (headTrace b v i a) o) (begun b v id i u t g)))
         ∙ sym (node-run b v id i u room (levels - 1) o)
         ∙ ap (λ (a : ℕ). run room (nodeForm (viewOf b v) a id) o) (sym m)
 

@@ -12,7 +12,9 @@ use Rattle.text.specs.Output.{Output, at, refused}
 use Rattle.btree.specs.Scan.{scanOf}
 use Rattle.btree.specs.declared.entries.Search.{Search}
 use Rattle.cursor.specs.Left.{runAt, Begins}
+use Rattle.cursor.specs.Way.{Leads}
 use Rattle.cursor.specs.declared.steps.Step.{Step}
+use Rattle.cursor.specs.declared.way.Way.{Way}
 use Rattle.volume.specs.declared.Volume.{Volume}
 use Rattle.records.specs.Directory.{entryAt}
 use Rattle.records.specs.declared.directory.Entry.{Entry}
@@ -60,8 +62,11 @@ module _ (b : List ℕ) (v : Volume) (id : ℕ) (i : Inode) (h : inodeOf b v id 
   own = ap (λ (n : ℕ). inodeOf b v n 0 .answer) same-id ∙ h
 
   -- the run from the first step is the whole scan
-  pub begun : (q : Search) (t : Step) → q ≡ searchOf v id 9 → Begins b q t (scanOf b q 0) → runAt b (searchOf v (i .id) 9) t (t .from) ≡ scanOf b (searchOf v (i .id) 9) 0
-  begun q t e g = rw same-id (rw e at (g .run))
+  pub begun : (t : Step) → Begins b (searchOf v id 9) t (scanOf b (searchOf v id 9) 0) → runAt b (searchOf v (i .id) 9) t (t .from) ≡ scanOf b (searchOf v (i .id) 9) 0
+  begun t g = rw same-id (g .run)
+
+  pub own-way : (w : Way) → Leads b (searchOf v id 3) 0 w → Leads b (searchOf v (i .id) 3) 0 w
+  own-way w l = rw same-id l
 
   data-as : dataLine (viewOf b v) (inodeShown (v .reader) b i) ≡ dataTrace b v i
   unfolding dataLine dataTrace plainTrace inodeShown contentsAnswer

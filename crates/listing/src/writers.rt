@@ -1,5 +1,4 @@
 // A node's form holds entry forms, and an entry's form holds a node's: the two writers call each other, and the depth that remains falls.
-use cursor::first;
 use cursor::next;
 use error::Refusal;
 use forms::put_head;
@@ -8,7 +7,9 @@ use inode_record::InodeRead;
 use lines::put_entry_line;
 use lists::EntryIn;
 use lists::entry_in;
-use lists::inode;
+use lists::inode_on;
+use lists::inode_way;
+use lists::list_on;
 use lists::search;
 use records::Entry;
 use text::Position;
@@ -37,14 +38,15 @@ pub fn put_node(
     if levels == 0 {
         return refuse(p, Refusal::TooDeep);
     }
-    let found = inode(image, v, id, 0);
+    let way = inode_way(image, v, id, 0);
+    let found = inode_on(image, v, id, way, 0);
     let read = found.inode;
     match read {
         InodeRead::No(w) => refuse(p, w),
         InodeRead::Got(i) => {
             let q = search(v, id, 9);
-            let mut s = first(image, q, 0);
-            let mut o = put_head(out, room, p, image, v, i, s);
+            let mut s = list_on(image, v, id, 9, way, 0);
+            let mut o = put_head(out, room, p, image, v, i, way, s);
             let mut k = s.from;
             loop {
                 let at = s.reached;

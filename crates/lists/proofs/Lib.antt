@@ -2,3 +2,4 @@ pub mod Reading
 pub mod Laws
 pub mod Turns
 pub mod Elements
+pub mod OnWay

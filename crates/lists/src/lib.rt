@@ -5,6 +5,7 @@ mod extents;
 mod inodes;
 mod seen;
 mod tree;
+mod ways;
 
 pub use attributes::AttributeAt;
 pub use attributes::AttributeFound;
@@ -30,3 +31,6 @@ pub use seen::entry_in;
 pub use seen::extent_in;
 pub use tree::fewer;
 pub use tree::search;
+pub use ways::inode_on;
+pub use ways::inode_way;
+pub use ways::list_on;

@@ -1,5 +1,5 @@
-use borrow.Author.Needs.{needs}
 use Rattle.forms.proofs.Lines.{all}
+use borrow.Author.Needs.{needs}
 use Rattle.forms.proofs.contents_line.put_data.Statement.{statement}
 use Rattle.forms.proofs.contents_line.put_data.Tie as tie
 

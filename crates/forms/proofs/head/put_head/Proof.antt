@@ -16,6 +16,5 @@ put-head-spec =
     (λ c κs. search needs)
     (λ c κs. search needs)
     (λ c κs. search needs)
-    (λ c κs. search needs)
     (λ c. search needs)
-    (λ c. head-all _ _ (c .before .before .before .before .before .before .before .before .before .before .before .before .before .before .before .before .before .before .before .before .args .v) _ _ _ _ _ (c .before .before .before .before .before .before .before .before .before .before .before .before .before .before .before .put-node-line .ensures) _ _ _ _ _ (c .before .before .before .before .before .before .before .before .before .before .search .ensures) (c .before .before .before .before .before .before .before .before .before .first .ensures) (c .before .before .before .before .before .before .before .before .read-lists .ensures) (c .before .before .before .before .before .before .put-attributes .ensures) (c .before .before .put-data .ensures)))
+    (λ c. search (heads, head-all)))

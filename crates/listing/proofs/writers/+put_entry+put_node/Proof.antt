@@ -13,7 +13,7 @@ use Rattle.lines.specs.Shown.{entryShown}
 use Rattle.demand.specs.Listing.{entryForms, nodeForm}
 use Rattle.demand.specs.Demand.{viewOf}
 use Rattle.forms.specs.Inner.{run}
-use Rattle.listing.proofs.Laws.{nodes, node-whole, entries-next, some-left, less-left}
+use Rattle.listing.proofs.Laws.{nodes, inode-way-same, node-whole, entries-next, some-left, less-left}
 use Rattle.lists.proofs.Reading.{readable-over, readable-no}
 use borrow.Fn.Kinds.{In}
 use borrow.Fn.PlainCycle.{Measures, is, falls, and}
@@ -23,13 +23,14 @@ use Rattle.listing.proofs.writers.+put_entry+put_node.Lts-put_entry as 
 use Rattle.listing.proofs.writers.put_node.Reads as put-node
 use Rattle.listing.proofs.writers.put_node.Kinds as put-node-kinds
 use Rattle.listing.proofs.writers.+put_entry+put_node.Lts-put_node as put-node-lts
-use Rattle.cursor.proofs.first.Reads as first-reads
 use Rattle.cursor.proofs.next.Reads as next-reads
 use Rattle.forms.proofs.put_head.Reads as put-head-reads
 use Rattle.forms.proofs.refuse.Reads as refuse-reads
 use Rattle.lines.proofs.put_entry_line.Reads as put-entry-line-reads
 use Rattle.lists.proofs.entry_in.Reads as entry-in-reads
-use Rattle.lists.proofs.inode.Reads as inode-reads
+use Rattle.lists.proofs.inode_on.Reads as inode-on-reads
+use Rattle.lists.proofs.inode_way.Reads as inode-way-reads
+use Rattle.lists.proofs.list_on.Reads as list-on-reads
 use Rattle.lists.proofs.search.Reads as search-reads
 use Rattle.text.proofs.put_all.Reads as put-all-reads
 use Rattle.listing.proofs.writers.+put_entry+put_node.{statement}
@@ -56,13 +57,13 @@ put-node-below t =
     and 2 put-node-kinds.ps (falls 2 put-node-kinds.ps _<_ μ-put-node t) put-node.Pre
 
 abbrev put-node-Inv-loop : put-node-lts.InvT-loop
-put-node-Inv-loop out₀ room image v id levels q s₀ o₀ k₀ t23 t27 out s o k =
+put-node-Inv-loop out₀ room image v id levels q s₀ o₀ k₀ t21 t22 out s o k =
     (run room (entryForms (nodeForm (viewOf image v) (levels - 1)) (map (entryShown (v .reader) image) (readable (entryAt (q .reader) image) (runAt image q s k)))) (outputOf o out)
     ≡ run room (entryForms (nodeForm (viewOf image v) (levels - 1)) (map (entryShown (v .reader) image) (readable (entryAt (q .reader) image) (runAt image q s₀ k₀)))) (outputOf o₀ out₀))
     × (length out ≡ length out₀)
 
 abbrev put-node-μ-loop : put-node-lts.MeasureT-loop
-put-node-μ-loop out₀ room image v id levels q s₀ o₀ k₀ t23 t27 out s o k = rest image q s k
+put-node-μ-loop out₀ room image v id levels q s₀ o₀ k₀ t21 t22 out s o k = rest image q s k
 
 pub +put-entry+put-node-spec : {M : Type 1} → statement M
 +put-entry+put-node-spec = close μ-put-entry μ-put-node (λ t. put-entry-lts.spec (
@@ -98,12 +99,14 @@ pub +put-entry+put-node-spec : {M : Type 1} → statement M
     λ t. put-node-lts.spec (
       refuse-reads.Asked,
       refuse-reads.Learnt,
-      inode-reads.Asked,
-      inode-reads.Learnt,
+      inode-way-reads.Asked,
+      inode-way-reads.Learnt,
+      inode-on-reads.Asked,
+      inode-on-reads.Learnt,
       search-reads.Asked,
       search-reads.Learnt,
-      first-reads.Asked,
-      first-reads.Learnt,
+      list-on-reads.Asked,
+      list-on-reads.Learnt,
       put-head-reads.Asked,
       put-head-reads.Learnt,
       entry-in-reads.Asked,
@@ -123,7 +126,9 @@ pub +put-entry+put-node-spec : {M : Type 1} → statement M
     (λ c κs. search needs)
     -- put-node-returns
     (λ c. search (nodes, c .refuse .ensures))
-    -- put-node-inode-requires
+    -- put-node-inode-way-requires
+    (λ c κs. search needs)
+    -- put-node-inode-on-requires
     (λ c κs. search needs)
     -- put-node-enum-known-read
     (λ c. search nodes)
@@ -133,10 +138,10 @@ pub +put-entry+put-node-spec : {M : Type 1} → statement M
     (λ c. search nodes)
     -- put-node-search-requires
     (λ c κs. search needs)
-    -- put-node-first-requires
+    -- put-node-list-on-requires
     (λ c κs. search needs)
     -- put-node-put-head-requires
-    (λ c κs. search needs)
+    (λ c κs. search (needs, inode-way-same))
     -- put-node-loop-holds
     (λ c. search nodes)
     -- put-node-entry-in-requires
@@ -150,7 +155,7 @@ pub +put-entry+put-node-spec : {M : Type 1} → statement M
     -- put-node-same-length
     (λ c. search nodes)
     -- put-node-returns-2
-    (λ c. node-whole _ _ (c .before .before .before .before .before .before .before .before .before .before .before .before .before .before .before .before .before .before .before .before .before .before .args .v) _ _ _ _ (c .before .before .before .before .before .before .before .before .before .before .before .before .before .before .before .before .before .before .before .if1 .left) _ (c .before .before .before .before .before .before .before .before .before .before .before .before .before .before .before .before .before .before .inode .ensures) _ _ _ _ _ _ _ (c .before .before .before .before .before .before .before .before .before .before .before .before .before .before .before .before .read2 .given .1) (c .before .before .before .before .before .before .before .before .before .before .before .before .before .before .search .ensures) (c .before .before .before .before .before .before .before .before .before .before .before .before .before .first .ensures) (c .before .before .before .before .before .before .before .before .before .before .before .put-head .ensures) (c .before .before .before .before .before .before .before .before .loop .inv .0) (search (needs, seens, readable-over)) (c .before .before .put-all .ensures))
+    (λ c. node-whole _ _ (c .before .before .before .before .before .before .before .before .before .before .before .before .before .before .before .before .before .before .before .before .before .before .before .args .v) _ _ _ _ (c .before .before .before .before .before .before .before .before .before .before .before .before .before .before .before .before .before .before .before .before .if1 .left) _ (c .before .before .before .before .before .before .before .before .before .before .before .before .before .before .before .before .before .before .inode-on .ensures) _ _ _ _ _ _ _ (c .before .before .before .before .before .before .before .before .before .before .before .before .before .before .before .before .read2 .given .1) (c .before .before .before .before .before .before .before .before .before .before .before .before .before .before .search .ensures) (c .before .before .before .before .before .before .before .before .before .before .before .before .before .list-on .ensures) (c .before .before .before .before .before .before .before .before .before .before .before .put-head .ensures) (c .before .before .before .before .before .before .before .before .loop .inv .0) (search (needs, seens, readable-over)) (c .before .before .put-all .ensures))
     -- put-node-enum-told-2
     (λ c. search nodes)
     -- put-node-slice-aggregate-put-all-2
@@ -160,7 +165,7 @@ pub +put-entry+put-node-spec : {M : Type 1} → statement M
     -- put-node-same-length-2
     (λ c. search nodes)
     -- put-node-returns-3
-    (λ c. node-whole _ _ (c .before .before .before .before .before .before .before .before .before .before .before .before .before .before .before .before .before .before .before .before .before .before .args .v) _ _ _ _ (c .before .before .before .before .before .before .before .before .before .before .before .before .before .before .before .before .before .before .before .if1 .left) _ (c .before .before .before .before .before .before .before .before .before .before .before .before .before .before .before .before .before .before .inode .ensures) _ _ _ _ _ _ _ (c .before .before .before .before .before .before .before .before .before .before .before .before .before .before .before .before .read2 .given .1) (c .before .before .before .before .before .before .before .before .before .before .before .before .before .before .search .ensures) (c .before .before .before .before .before .before .before .before .before .before .before .before .before .first .ensures) (c .before .before .before .before .before .before .before .before .before .before .before .put-head .ensures) (c .before .before .before .before .before .before .before .before .loop .inv .0) (search (needs, seens, readable-no)) (c .before .before .put-all2 .ensures))
+    (λ c. node-whole _ _ (c .before .before .before .before .before .before .before .before .before .before .before .before .before .before .before .before .before .before .before .before .before .before .before .args .v) _ _ _ _ (c .before .before .before .before .before .before .before .before .before .before .before .before .before .before .before .before .before .before .before .before .if1 .left) _ (c .before .before .before .before .before .before .before .before .before .before .before .before .before .before .before .before .before .before .inode-on .ensures) _ _ _ _ _ _ _ (c .before .before .before .before .before .before .before .before .before .before .before .before .before .before .before .before .read2 .given .1) (c .before .before .before .before .before .before .before .before .before .before .before .before .before .before .search .ensures) (c .before .before .before .before .before .before .before .before .before .before .before .before .before .list-on .ensures) (c .before .before .before .before .before .before .before .before .before .before .before .put-head .ensures) (c .before .before .before .before .before .before .before .before .loop .inv .0) (search (needs, seens, readable-no)) (c .before .before .put-all2 .ensures))
     -- put-node-enum-told-3
     (λ c. search nodes)
     -- put-node-next-requires
@@ -172,12 +177,12 @@ pub +put-entry+put-node-spec : {M : Type 1} → statement M
     -- put-node-enum-known-e
     (λ c. search nodes)
     -- put-node-sub-put-entry
-    (λ c. some-left _ (c .before .before .before .before .before .before .before .before .before .before .before .before .before .before .before .before .if1 .left))
+    (λ c. some-left _ (c .before .before .before .before .before .before .before .before .before .before .before .before .before .before .before .before .before .if1 .left))
     -- put-node-put-entry-requires
-    (λ c κs. (less-left _ _ (c .before .before .before .before .before .before .before .before .before .before .before .before .before .before .before .before .if1 .left) (c .before .before .before .before .before .before .before .before .before .before .before .before .before .before .before .before .before .before .before .pre .0), tt))
+    (λ c κs. (less-left _ _ (c .before .before .before .before .before .before .before .before .before .before .before .before .before .before .before .before .before .if1 .left) (c .before .before .before .before .before .before .before .before .before .before .before .before .before .before .before .before .before .before .before .before .pre .0), tt))
     -- put-node-loop-less-2
     (λ c. search nodes)
     -- put-node-loop-again-2
-    (λ c. (entries-next _ _ _ (c .before .before .before .before .before .before .before .before .before .before .before .before .before .before .before .before .before .before .before .before .before .before .args .v) _ _ _ _ _ (c .before .before .before .before .before .before .before .before .loop .inv .0) _ (c .before .before .before .before .before .before .before .entry-in .ensures) _ _ _ (search seens) (c .before .before .put-entry .ensures), search needs))
+    (λ c. (entries-next _ _ _ (c .before .before .before .before .before .before .before .before .before .before .before .before .before .before .before .before .before .before .before .before .before .before .before .args .v) _ _ _ _ _ (c .before .before .before .before .before .before .before .before .loop .inv .0) _ (c .before .before .before .before .before .before .before .entry-in .ensures) _ _ _ (search seens) (c .before .before .put-entry .ensures), search needs))
     -- put-node-returns-4
     (λ c. search (nodes, c .refuse2 .ensures))
