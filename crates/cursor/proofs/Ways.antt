@@ -22,14 +22,15 @@ use Rattle.btree.specs.declared.leaf.InLeaf.{InLeaf}
 use Rattle.btree.specs.declared.leaf.InLeaf.the-variants as leaf
 use Rattle.btree.specs.declared.seek.Turn.the-variants as turn
 use Rattle.btree.specs.declared.seek.Turned.{Turned}
-use Rattle.btree.proofs.Leaves.{leaf-jump}
+use Rattle.btree.proofs.Leaves.{in-back, leaf-jump}
 use Rattle.btree.proofs.Higher.{leaf-up}
-use Rattle.btree.proofs.Turns.{each-into, as-leaf, as-index, child-on, root-low}
-use Rattle.cursor.specs.Left.{topOf, noMark, nodeOn, levels, left, Begins}
+use Rattle.btree.proofs.Turns.{leaf-passed, leaf-end, leaf-no, each-into, as-leaf, as-index, child-on, root-low}
+use Rattle.cursor.specs.Left.{topOf, noMark, nodeOn, levels, left, runAt, Begins}
 use Rattle.cursor.specs.Inner.{markOf, withMark, Known, onward, Makes, inWhole}
 use Rattle.cursor.specs.Way.{stayOf, levelsStay, staysOn, recordIn, Comes, Leads}
 use Rattle.cursor.specs.declared.path.Mark.{Mark}
 use Rattle.cursor.specs.declared.path.Path.{Path}
+use Rattle.cursor.specs.declared.steps.Reached.{Reached}
 use Rattle.cursor.specs.declared.steps.Step.{Step}
 use Rattle.cursor.specs.declared.walk.InPart.{InPart}
 use Rattle.cursor.specs.declared.walk.PartStep.{PartStep}
@@ -182,6 +183,39 @@ module _ (b : List ℕ) (q : Search) (s : PartStep) (k : Tail) (whole : Run) (p 
 
   pub begun-kept : r ≡ record { reached = inWhole (s .found); from = s .from; level = s .level; path = s .path; nodes = s .nodes } → Final (s .found) → Begins b q r whole
   begun-kept e f = whole-run b q s r whole e (kept b q s k whole p end f)
+
+-- the same from a leaf on, by its first record
+module _ (b : List ℕ) (q : Search) (w : Way) (r : Step) (x : InLeaf) (t : x ≡ inNode b q (w .node) (w .from)) where
+  abbrev leafRun : Run
+  leafRun = leafFrom b q (w .node) (w .node .nkeys - w .from) (w .from) (w .nodes) (left b q (w .path) (w .level) (w .nodes))
+
+  abbrev stepTo : Reached → ℕ → Step
+  stepTo y i = record { reached = y; from = i; level = w .level; path = w .path; nodes = w .nodes }
+
+  pub begun-at : (p : Place) (a : ℕ) → x ≡ leaf.At p a → r ≡ stepTo (Reached.Leaf (w .node)) (a - 1) → Begins b q r leafRun
+  unfolding runAt
+  begun-at p a e h = rw h (record {
+    run = leaf-jump b q (w .node) (w .from) (w .nodes) (left b q (w .path) (w .level) (w .nodes)) p a (sym t ∙ e);
+    there = λ g. let f : inNode b q (w .node) (a - 1) ≡ leaf.At p a = in-back b q (w .node) (w .from) p a (sym t ∙ e) in let z : _≡_ {A = ℕ} 0 1 = cc in omega arith;
+  })
+
+  pub begun-next : x ≡ leaf.Passed → Begins b q r (left b q (w .path) (w .level) (w .nodes)) → Begins b q r leafRun
+  begun-next e h = rw (leaf-passed b q (w .node) (w .from) (w .nodes) _ leafRun refl x t e) at h
+
+  pub begun-end : x ≡ leaf.End → r ≡ stepTo Reached.End 0 → Begins b q r leafRun
+  unfolding runAt
+  begun-end e h = rw h (record { run = leaf-end b q (w .node) (w .from) (w .nodes) _ leafRun refl x t e; there = λ g. let z : _≡_ {A = ℕ} 0 1 = cc in omega arith })
+
+  pub begun-no : (y : Refusal) → x ≡ leaf.No y → r ≡ stepTo (Reached.No y) 0 → Begins b q r leafRun
+  unfolding runAt
+  begun-no y e h = rw h (record { run = leaf-no b q (w .node) (w .from) (w .nodes) _ leafRun refl x t y e; there = λ g. let z : _≡_ {A = ℕ} 0 1 = cc in omega arith })
+
+pub ruleset leaf-begun = (needs, begun-at, begun-next, begun-end, begun-no)
+
+pub as-leaf-begun : (b : List ℕ) (q : Search) (w : Way) (r : Step) → leafBit (w .node .flags) ≡ 1 →
+    Begins b q r (leafFrom b q (w .node) (w .node .nkeys - w .from) (w .from) (w .nodes) (left b q (w .path) (w .level) (w .nodes))) →
+    Begins b q r (walk b q (w .level) (w .node) (w .from) (left b q (w .path) (w .level)) (w .nodes))
+as-leaf-begun b q w r h e = rw (ap (λ (z : Tail). z (w .nodes)) (as-leaf (child b q (w .level)) b q (w .node) (w .from) (left b q (w .path) (w .level)) h)) at e
 
 -- on the way of a search
 module _ (b : List ℕ) (q : Search) (s : ℕ) (w : Way) (l : Leads b q s w) (h : q .root .level ≤ 32) where

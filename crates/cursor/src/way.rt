@@ -6,6 +6,7 @@ use crate::path::node_on;
 use crate::path::none_left;
 use crate::path::put;
 use crate::path::top_of;
+use crate::steps::Reached;
 use crate::steps::Step;
 use crate::steps::first;
 use crate::steps::next;
@@ -25,7 +26,7 @@ ghost use mathlib.Core.Path.{_≡_};
 ghost use mathlib.Core.Bool.{true};
 ghost use Prim.Native.Nat.{_-_, _≤_, _<_};
 ghost use Rattle.btree.specs.Scan.{scanOf};
-ghost use Rattle.btree.specs.Inner.{inNode, walk, kinded};
+ghost use Rattle.btree.specs.Inner.{leafFrom, inNode, walk, kinded};
 ghost use Rattle.cursor.specs.Left.{topOf, left, Begins};
 ghost use Rattle.cursor.specs.Inner.{Known};
 ghost use Rattle.cursor.specs.Way.{staysOn, recordIn, Leads};
@@ -125,8 +126,37 @@ fn stays_on(image: &[u8], q: Search, c: Path, level: u16) -> bool
     true
 }
 
-// The first leaf from a node on.
-fn begin_at(image: &[u8], q: Search, w: Way) -> Step
+fn step_to(reached: Reached, from: u32, w: Way) -> Step
+    ensures { λ r. ⌜ r ≡ record { reached = reached; from = from; level = w .level; path = w .path; nodes = w .nodes } ⌝ }
+{
+    let path = w.path;
+    Step {
+        reached: reached,
+        from: from,
+        level: w.level,
+        path: path,
+        nodes: w.nodes,
+    }
+}
+
+// The first leaf from a leaf on: mostly itself.
+fn begin_leaf(image: &[u8], q: Search, w: Way) -> Step
+    ensures { λ r. ⌜ Begins (now (image .entry)) q r (leafFrom (now (image .entry)) q (w .node) (w .node .nkeys - w .from) (w .from) (w .nodes) (left (now (image .entry)) q (w .path) (w .level) (w .nodes))) ⌝ }
+{
+    let node = w.node;
+    match next_in(image, q, node, w.from) {
+        InLeaf::At(_, after) => step_to(Reached::Leaf(node), after - 1, w),
+        InLeaf::Passed => {
+            let c = w.path;
+            next(image, q, c, w.level, w.nodes)
+        }
+        InLeaf::End => step_to(Reached::End, 0, w),
+        InLeaf::No(e) => step_to(Reached::No(e), 0, w),
+    }
+}
+
+// The first leaf from an index node on.
+fn begin_index(image: &[u8], q: Search, w: Way) -> Step
     requires { ⌜ (w .level ≤ topOf q) × Known (now image) q (w .level) (w .node) ⌝ }
     ensures { λ r. ⌜ Begins (now (image .entry)) q r (walk (now (image .entry)) q (w .level) (w .node) (w .from) (left (now (image .entry)) q (w .path) (w .level)) (w .nodes)) ⌝ }
 {
@@ -140,6 +170,17 @@ fn begin_at(image: &[u8], q: Search, w: Way) -> Step
         InPart::End => whole(s),
         InPart::No(_) => whole(s),
     }
+}
+
+fn begin_at(image: &[u8], q: Search, w: Way) -> Step
+    requires { ⌜ (w .level ≤ topOf q) × Known (now image) q (w .level) (w .node) ⌝ }
+    ensures { λ r. ⌜ Begins (now (image .entry)) q r (walk (now (image .entry)) q (w .level) (w .node) (w .from) (left (now (image .entry)) q (w .path) (w .level)) (w .nodes)) ⌝ }
+{
+    let node = w.node;
+    if node.flags / 2 % 2 == 1 {
+        return begin_leaf(image, q, w);
+    }
+    begin_index(image, q, w)
 }
 
 // The first leaf of a search, on its own way.

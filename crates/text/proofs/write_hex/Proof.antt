@@ -13,7 +13,7 @@ Inv-loop out₀ at b i₀ out i = (i ≤ length b) × Hexed b out₀ at out i ×
 abbrev μ-loop : tie.MeasureT-loop
 μ-loop out₀ at b i₀ out i = length b - i
 
-ruleset all = (needs, hex-start, hex-next, hex-end)
+ruleset all = (needs, hex-start, hex-next, hex-end, second-lies)
 
 pub write-hex-spec : {M : Type 1} → statement M
 write-hex-spec =
@@ -31,7 +31,7 @@ write-hex-spec =
     (λ c. search all)
     (λ c. search all)
     (λ c. search all)
-    (λ c. search (needs, second-lies))
+    (λ c. search all)
     (λ c. search all)
     (λ c. search all)
     (λ c. search all)

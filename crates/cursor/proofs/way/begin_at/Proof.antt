@@ -1,5 +1,4 @@
-use Rattle.cursor.proofs.Left.{final}
-use Rattle.cursor.proofs.Ways.{begun-passed, begun-kept}
+use Rattle.cursor.proofs.Ways.{as-leaf-begun}
 use borrow.Author.Needs.{needs}
 use Rattle.cursor.proofs.way.begin_at.Statement.{statement}
 use Rattle.cursor.proofs.way.begin_at.Tie as tie
@@ -9,15 +8,6 @@ begin-at-spec =
     tie.close
     (tie.spec
     (λ c κs. search needs)
-    (λ c. search needs)
+    (λ c. search (needs, as-leaf-begun))
     (λ c κs. search needs)
-    (λ c. search needs)
-    (λ c κs. search needs)
-    (λ c. search needs)
-    (λ c κs. search needs)
-    (λ c. search needs)
-    (λ c κs. search needs)
-    (λ c. search (needs, final, begun-passed, begun-kept))
-    (λ c. search (needs, final, begun-passed, begun-kept))
-    (λ c. search (needs, final, begun-passed, begun-kept))
-    (λ c. search (needs, final, begun-passed, begun-kept)))
+    (λ c. search needs))
