@@ -70,37 +70,37 @@ module _ (b : List ℕ) (q : Search) (m : Node) (i : ℕ) where
   order-path Above x y z h j k = k
 
   -- a child that was looked up and read
-  child-path : (child : ℕ) → childAt (bytesOf b q m) m (q .info) i ≡ got child → EntryPath b q m i (childNode b q child)
+  child-path : (child : ℕ) → childAt (bytesOf b q m) m (q .keys .info) i ≡ got child → EntryPath b q m i (childNode b q child)
   unfolding childNode andThen
-  child-path child e = of (resolve (q .reader) b (q .resolve) child .answer)
+  child-path child e = of (resolve (q .keys .reader) b (q .resolve) child .answer)
     where
       named : List ℕ
-      named = resolve (q .reader) b (q .resolve) child .path
+      named = resolve (q .keys .reader) b (q .resolve) child .path
 
       read : ℕ → Answer Node → Through Act
       read p x = on x λ c. by p (atOnce (got (into c)))
 
-      into-path : (p : ℕ) (x : Answer Node) → nodeAt (q .reader) b p ≡ x → EntryPath b q m i (record { path = named ++ read p x .path; answer = read p x .answer })
+      into-path : (p : ℕ) (x : Answer Node) → nodeAt (q .keys .reader) b p ≡ x → EntryPath b q m i (record { path = named ++ read p x .path; answer = read p x .answer })
       into-path p (got d) g = record {
         stopped = λ h. absurd (let z : _≡_ {A = ℕ} 0 1 = cc in omega arith);
         skipped = λ h. absurd (let z : _≡_ {A = ℕ} 0 1 = cc in omega arith);
         entered = λ c h. (child, e, entered c h);
       }
         where
-          entered : (c : Node) → got (into d) ≡ got (into c) → named ++ (p ∷ []) ≡ namePath (q .reader) b (q .resolve) child ++ (c .block ∷ [])
+          entered : (c : Node) → got (into d) ≡ got (into c) → named ++ (p ∷ []) ≡ namePath (q .keys .reader) b (q .resolve) child ++ (c .block ∷ [])
           entered c h =
               let k : d ≡ c = cc in
-              let l : p ≡ c .block = sym (read-block (q .reader) b p d g) ∙ ap (λ (n : Node). n .block) k in
-              rw (resolves-by (q .reader) b (q .resolve) child, l)
+              let l : p ≡ c .block = sym (read-block (q .keys .reader) b p d g) ∙ ap (λ (n : Node). n .block) k in
+              rw (resolves-by (q .keys .reader) b (q .resolve) child, l)
       into-path p (no w) g = no-path _ w
 
-      of : (a : Answer ℕ) → EntryPath b q m i (record { path = named ++ on a (λ p. read p (nodeAt (q .reader) b p)) .path; answer = on a (λ p. read p (nodeAt (q .reader) b p)) .answer })
-      of (got p) = into-path p (nodeAt (q .reader) b p) refl
+      of : (a : Answer ℕ) → EntryPath b q m i (record { path = named ++ on a (λ p. read p (nodeAt (q .keys .reader) b p)) .path; answer = on a (λ p. read p (nodeAt (q .keys .reader) b p)) .answer })
+      of (got p) = into-path p (nodeAt (q .keys .reader) b p) refl
       of (no w) = no-path _ w
 
   enter-path : EntryPath b q m i (enterAt b q m i)
   unfolding enterAt
-  enter-path = on-path (childAt (bytesOf b q m) m (q .info) i) (childNode b q) child-path
+  enter-path = on-path (childAt (bytesOf b q m) m (q .keys .info) i) (childNode b q) child-path
 
   turn-path : EntryPath b q m i (turnAt b q m i)
   unfolding turnAt followAt

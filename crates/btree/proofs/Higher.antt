@@ -106,10 +106,10 @@ module _ (id kind k : ℕ) (lt : kind < k) where
         let u = bound (keyOrder id kind (partOf b (t .0 .key))) _ y (t .1 .1) in
         ordered-up i (t .0) (u .0) (t .1 .0) (u .1 .0) (λ z. v (above-ends (u .0) _ y (u .1 .1) z))
 
-module _ (b : List ℕ) (q : Search) (m : Node) (k : ℕ) (lt : q .kind < k) where
+module _ (b : List ℕ) (q : Search) (m : Node) (k : ℕ) (lt : q .keys .kind < k) where
   pub seek-up : (i j : ℕ) → staysAt b (kinded q k) m (j + 1) ≡ true → seekAt b q m i ≡ At j → seekAt b (kinded q k) m i ≡ At j
   unfolding staysAt
-  seek-up i j f e = seek-up-by (q .id) (q .kind) k lt (bytesOf b q m) m (q .info) (m .nkeys - i) i j refl (λ l. above _ _ _ _ _ l refl ∙ f) e
+  seek-up i j f e = seek-up-by (q .keys .id) (q .keys .kind) k lt (bytesOf b q m) m (q .keys .info) (m .nkeys - i) i j refl (λ l. above _ _ _ _ _ l refl ∙ f) e
 
   -- a leaf from the record of the one on
   module _ (s : ℕ) (t : Run) (p : Place) (a : ℕ) where
@@ -118,7 +118,7 @@ module _ (b : List ℕ) (q : Search) (m : Node) (k : ℕ) (lt : q .kind < k) whe
         itemThen x (i + 1) y ≡ leaf.At p a → leafFrom b (kinded q k) m (m .nkeys - (a - 1)) (a - 1) s t ≡ leafFrom b (kinded q k) m (suc n) i s t
     unfolding leafThen leafFrom
     leaf-up-step n i (got passOver) y h g e f =
-        let z : itemAt b (kinded q k) m i ≡ got passOver = item-up (q .id) (q .kind) k lt (bytesOf b q m) m (q .info) i passOver g (λ w. let u : _≡_ {A = ℕ} 0 1 = cc in omega arith) in
+        let z : itemAt b (kinded q k) m i ≡ got passOver = item-up (q .keys .id) (q .keys .kind) k lt (bytesOf b q m) m (q .keys .info) i passOver g (λ w. let u : _≡_ {A = ℕ} 0 1 = cc in omega arith) in
         e f ∙ rw z
     leaf-up-step n i (got endScan) y h g e f = absurd (let u : _≡_ {A = ℕ} 0 1 = cc in omega arith)
     leaf-up-step n i (got (recordAt w)) y h g e f =
@@ -127,7 +127,7 @@ module _ (b : List ℕ) (q : Search) (m : Node) (k : ℕ) (lt : q .kind < k) whe
         rw (j, ← h)
     leaf-up-step n i (no w) y h g e f = absurd (let u : _≡_ {A = ℕ} 0 1 = cc in omega arith)
 
-    leaf-up-by : (n i : ℕ) → n ≡ m .nkeys - i → inLeaf (bytesOf b q m) m (q .info) (q .id) (q .kind) n i ≡ leaf.At p a →
+    leaf-up-by : (n i : ℕ) → n ≡ m .nkeys - i → inLeaf (bytesOf b q m) m (q .keys .info) (q .keys .id) (q .keys .kind) n i ≡ leaf.At p a →
         leafFrom b (kinded q k) m (m .nkeys - (a - 1)) (a - 1) s t ≡ leafFrom b (kinded q k) m n i s t
     unfolding inLeaf
     leaf-up-by zero i h e = absurd (let u : _≡_ {A = ℕ} 0 1 = cc in omega arith)
@@ -142,7 +142,7 @@ module _ (b : List ℕ) (q : Search) (m : Node) (i : ℕ) where
   unfolding staysAt
   stays-last h = at-most _ _ _ _ _ h refl
 
-  module _ (h : i < m .nkeys) (u : List ℕ) (e : u ≡ bytesOf b q m) (r : Ordered) (t : orderTold r ≡ orderIn u m (q .info) (q .id) (q .kind) i) where
+  module _ (h : i < m .nkeys) (u : List ℕ) (e : u ≡ bytesOf b q m) (r : Ordered) (t : orderTold r ≡ orderIn u m (q .keys .info) (q .keys .id) (q .keys .kind) i) where
     stays-by : notBelow (orderTold r) ≡ staysAt b q m i
     unfolding staysAt
     stays-by = above _ _ _ _ _ h (rw (t, e))

@@ -90,9 +90,9 @@ module _ {A : Type 0} (s : ℕ) (o : Order) (x y z : Through A) (w : Counted A) 
 
 -- a child, its name having been looked up
 pub child-node : (b : List ℕ) (q : Search) (child s : ℕ) (z : Counted Act) →
-    z ≡ (onto (resolveAt (q .reader) b (q .resolve) child s) λ p n. counted n (on (nodeAt (q .reader) b p) λ c. by p (atOnce (got (into c))))) → z ≡ counted s (childNode b q child)
+    z ≡ (onto (resolveAt (q .keys .reader) b (q .resolve) child s) λ p n. counted n (on (nodeAt (q .keys .reader) b p) λ c. by p (atOnce (got (into c))))) → z ≡ counted s (childNode b q child)
 unfolding childNode resolveAt
-child-node b q child s z e = lookup-laws.counted-then s (resolve (q .reader) b (q .resolve) child) _ z e
+child-node b q child s z e = lookup-laws.counted-then s (resolve (q .keys .reader) b (q .resolve) child) _ z e
 
 -- where the key or the child was read in a list s that is u
 module _ (s u : List ℕ) (e : s ≡ u) where

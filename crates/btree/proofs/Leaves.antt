@@ -46,7 +46,7 @@ pub ruleset inside = (needs, in-done, in-pass, in-stop, in-at, in-no)
 -- the first record that an entry, or what comes after it, gives
 module _ (b : List ℕ) (q : Search) (m : Node) (n i : ℕ) (h : suc n ≡ m .nkeys - i) where
   abbrev later : InLeaf
-  later = inLeaf (bytesOf b q m) m (q .info) (q .id) (q .kind) n (i + 1)
+  later = inLeaf (bytesOf b q m) m (q .keys .info) (q .keys .id) (q .keys .kind) n (i + 1)
 
   leaf-step : (s : ℕ) (k : Run) (a : Answer Leaf) → leafFrom b q m n (i + 1) s k ≡ inThen b q m later s k →
       leafThen a s (leafFrom b q m n (i + 1) s k) ≡ inThen b q m (itemThen a (i + 1) later) s k
@@ -73,17 +73,17 @@ module _ (b : List ℕ) (q : Search) (m : Node) (n i : ℕ) (h : suc n ≡ m .nk
   back-step p a (no w) t e g = absurd (let z : _≡_ {A = ℕ} 0 1 = cc in omega arith)
 
 module _ (b : List ℕ) (q : Search) (m : Node) where
-  leaf-by : (n i s : ℕ) (k : Run) → n ≡ m .nkeys - i → leafFrom b q m n i s k ≡ inThen b q m (inLeaf (bytesOf b q m) m (q .info) (q .id) (q .kind) n i) s k
+  leaf-by : (n i s : ℕ) (k : Run) → n ≡ m .nkeys - i → leafFrom b q m n i s k ≡ inThen b q m (inLeaf (bytesOf b q m) m (q .keys .info) (q .keys .id) (q .keys .kind) n i) s k
   unfolding leafFrom inLeaf
   leaf-by zero i s k h = refl
   leaf-by (suc n) i s k h = leaf-step b q m n i h s k (itemAt b q m i) (leaf-by n (i + 1) s k (omega arith))
 
-  bound-by : (n i : ℕ) (p : Place) (a : ℕ) → n ≡ m .nkeys - i → inLeaf (bytesOf b q m) m (q .info) (q .id) (q .kind) n i ≡ At p a → (i < a) × (a ≤ m .nkeys)
+  bound-by : (n i : ℕ) (p : Place) (a : ℕ) → n ≡ m .nkeys - i → inLeaf (bytesOf b q m) m (q .keys .info) (q .keys .id) (q .keys .kind) n i ≡ At p a → (i < a) × (a ≤ m .nkeys)
   unfolding inLeaf
   bound-by zero i p a h e = absurd (let z : _≡_ {A = ℕ} 0 1 = cc in omega arith)
   bound-by (suc n) i p a h e = bound-step b q m n i h p a (itemAt b q m i) (bound-by n (i + 1) p a (omega arith)) e
 
-  back-by : (n i : ℕ) (p : Place) (a : ℕ) → n ≡ m .nkeys - i → inLeaf (bytesOf b q m) m (q .info) (q .id) (q .kind) n i ≡ At p a → inNode b q m (a - 1) ≡ At p a
+  back-by : (n i : ℕ) (p : Place) (a : ℕ) → n ≡ m .nkeys - i → inLeaf (bytesOf b q m) m (q .keys .info) (q .keys .id) (q .keys .kind) n i ≡ At p a → inNode b q m (a - 1) ≡ At p a
   unfolding inLeaf
   back-by zero i p a h e = absurd (let z : _≡_ {A = ℕ} 0 1 = cc in omega arith)
   back-by (suc n) i p a h e = back-step b q m n i h p a (itemAt b q m i) refl (back-by n (i + 1) p a (omega arith)) e

@@ -32,32 +32,32 @@ use Rattle.btree.proofs.Seeking.{each-seek, seek-bound}
 
 -- a child that was gone into was read from its block
 module _ (b : List ℕ) (q : Search) (c : Node) where
-  read-known : (p : ℕ) (x : Answer Node) → nodeAt (q .reader) b p ≡ x → (on x λ d. by p (atOnce (got (into d)))) .answer ≡ got (into c) → nodeAt (q .reader) b (c .block) ≡ got c
+  read-known : (p : ℕ) (x : Answer Node) → nodeAt (q .keys .reader) b p ≡ x → (on x λ d. by p (atOnce (got (into d)))) .answer ≡ got (into c) → nodeAt (q .keys .reader) b (c .block) ≡ got c
   read-known p (got d) g h =
       let k : d ≡ c = cc in
-      let l : c .block ≡ p = ap (λ (n : Node). n .block) (sym k) ∙ read-block (q .reader) b p d g in
-      ap (nodeAt (q .reader) b) l ∙ (g ∙ ap got k)
+      let l : c .block ≡ p = ap (λ (n : Node). n .block) (sym k) ∙ read-block (q .keys .reader) b p d g in
+      ap (nodeAt (q .keys .reader) b) l ∙ (g ∙ ap got k)
   read-known p (no w) g h = absurd (let z : _≡_ {A = ℕ} 0 1 = cc in omega arith)
 
-  named-known : (a : Answer ℕ) → (on a λ p. on (nodeAt (q .reader) b p) λ d. by p (atOnce (got (into d)))) .answer ≡ got (into c) → nodeAt (q .reader) b (c .block) ≡ got c
-  named-known (got p) h = read-known p (nodeAt (q .reader) b p) refl h
+  named-known : (a : Answer ℕ) → (on a λ p. on (nodeAt (q .keys .reader) b p) λ d. by p (atOnce (got (into d)))) .answer ≡ got (into c) → nodeAt (q .keys .reader) b (c .block) ≡ got c
+  named-known (got p) h = read-known p (nodeAt (q .keys .reader) b p) refl h
   named-known (no w) h = absurd (let z : _≡_ {A = ℕ} 0 1 = cc in omega arith)
 
-  child-known : (a : Answer ℕ) → on a (childNode b q) .answer ≡ got (into c) → nodeAt (q .reader) b (c .block) ≡ got c
+  child-known : (a : Answer ℕ) → on a (childNode b q) .answer ≡ got (into c) → nodeAt (q .keys .reader) b (c .block) ≡ got c
   unfolding childNode andThen
-  child-known (got x) h = named-known (resolve (q .reader) b (q .resolve) x .answer) h
+  child-known (got x) h = named-known (resolve (q .keys .reader) b (q .resolve) x .answer) h
   child-known (no w) h = absurd (let z : _≡_ {A = ℕ} 0 1 = cc in omega arith)
 
-  enter-known : (m : Node) (i s : ℕ) (e : Entering) → enteringTold e ≡ counted s (enterAt b q m i) → turnOf (e .node) ≡ turn.Into c → nodeAt (q .reader) b (c .block) ≡ got c
+  enter-known : (m : Node) (i s : ℕ) (e : Entering) → enteringTold e ≡ counted s (enterAt b q m i) → turnOf (e .node) ≡ turn.Into c → nodeAt (q .keys .reader) b (c .block) ≡ got c
   unfolding enterAt counted
-  enter-known m i s e t h = child-known (childAt (bytesOf b q m) m (q .info) i) (sym (ap (λ (x : Counted Act). x .answer) t) ∙ of (e .node) h)
+  enter-known m i s e t h = child-known (childAt (bytesOf b q m) m (q .keys .info) i) (sym (ap (λ (x : Counted Act). x .answer) t) ∙ of (e .node) h)
     where
       of : (x : Parsed) → turnOf x ≡ turn.Into c → intoTold x ≡ got (into c)
       of (parsed.Got d) g = let k : d ≡ c = cc in ap (λ (n : Node). got (into n)) k
       of (parsed.No w) g = absurd (let z : _≡_ {A = ℕ} 0 1 = cc in omega arith)
 
 pub sought-low : (b : List ℕ) (q : Search) (m : Node) (i j : ℕ) (z : Seek) → z ≡ seekAt b q m i → z ≡ seek.At j → j < m .nkeys
-sought-low b q m i j z t e = seek-bound (bytesOf b q m) m (q .info) (q .id) (q .kind) i j (sym t ∙ e) .1
+sought-low b q m i j z t e = seek-bound (bytesOf b q m) m (q .keys .info) (q .keys .id) (q .keys .kind) i j (sym t ∙ e) .1
 
 module _ (b : List ℕ) (q : Search) (m : Node) (i s : ℕ) (z : Seek) (t : z ≡ seekAt b q m i) (r : Turned) where
   came : (x : Seek) (f : Node → Tail → Tail) (k : Tail) → z ≡ x → seekThen f b q m x k s ≡ each f b q m (m .nkeys - i) i k s
@@ -92,7 +92,7 @@ module _ (b : List ℕ) (q : Search) (m : Node) (i s : ℕ) (z : Seek) (t : z �
     unfolding act enterAt childNode
     reach-into d g h = record {
       course = λ f k. (rw h (of f k (d .node))) ∙ (ap (λ (x : Counted Act). act f x (each f b q m (m .nkeys - (j + 1)) (j + 1) k)) g ∙ came (seek.At j) f k e);
-      behind = λ c n. let low = seek-bound (bytesOf b q m) m (q .info) (q .id) (q .kind) i j (sym t ∙ e) in rw h (omega (arith, low), omega (arith, low));
+      behind = λ c n. let low = seek-bound (bytesOf b q m) m (q .keys .info) (q .keys .id) (q .keys .kind) i j (sym t ∙ e) in rw h (omega (arith, low), omega (arith, low));
       known = λ c n. enter-known b q c m j s d g (sym (ap (λ (x : Turned). x .turn) h) ∙ n);
       higher = λ c n x lt y f k.
           let l : turnOf (d .node) ≡ turn.Into c = sym (ap (λ (u : Turned). u .turn) h) ∙ n in
@@ -104,7 +104,7 @@ module _ (b : List ℕ) (q : Search) (m : Node) (i s : ℕ) (z : Seek) (t : z �
         told (parsed.Got x) c l = let v : x ≡ c = cc in ap parsed.Got v
         told (parsed.No w) c l = absurd (let v : _≡_ {A = ℕ} 0 1 = cc in omega arith)
 
-        goes-up : (x : ℕ) → q .kind < x → staysAt b (kinded q x) m (j + 1) ≡ true → (f : Node → Tail → Tail) (k : Tail) (c : Node) → turnOf (d .node) ≡ turn.Into c →
+        goes-up : (x : ℕ) → q .keys .kind < x → staysAt b (kinded q x) m (j + 1) ≡ true → (f : Node → Tail → Tail) (k : Tail) (c : Node) → turnOf (d .node) ≡ turn.Into c →
             f c (each f b (kinded q x) m (m .nkeys - (j + 1)) (j + 1) k) (d .nodes) ≡ each f b (kinded q x) m (m .nkeys - i) i k s
         goes-up x lt w f k c l =
             let u : f c (each f b (kinded q x) m (m .nkeys - (j + 1)) (j + 1) k) (d .nodes) ≡ act f (enteringTold d) (each f b (kinded q x) m (m .nkeys - (j + 1)) (j + 1) k) = rw (told (d .node) c l) in

@@ -105,9 +105,9 @@ pub ruleset seeking = (needs, seek-over, seek-below, seek-inside, seek-stop, see
 module _ (f : Node → Tail → Tail) (b : List ℕ) (q : Search) (m : Node) (k : Tail) (s : ℕ) where
   -- of n entries behind the i-th; the next of them stands as a says
   each-follow : (n i : ℕ) (a : Answer Order) → suc n ≡ m .nkeys - i → orderAt b q m (i + 1) ≡ a →
-      each f b q m n (i + 1) k s ≡ seekThen f b q m (seekIn (bytesOf b q m) m (q .info) (q .id) (q .kind) n (i + 1)) k s →
+      each f b q m n (i + 1) k s ≡ seekThen f b q m (seekIn (bytesOf b q m) m (q .keys .info) (q .keys .id) (q .keys .kind) n (i + 1)) k s →
       act f (counted s (followAt b q m i)) (each f b q m n (i + 1) k)
-      ≡ seekThen f b q m (followThen n a i (seekIn (bytesOf b q m) m (q .info) (q .id) (q .kind) n (i + 1))) k s
+      ≡ seekThen f b q m (followThen n a i (seekIn (bytesOf b q m) m (q .keys .info) (q .keys .id) (q .keys .kind) n (i + 1))) k s
   unfolding followAt counted countAlong act byOrder
   each-follow zero i a h t e =
       let j : m .nkeys ≤ i + 1 = omega arith in
@@ -119,7 +119,7 @@ module _ (f : Node → Tail → Tail) (b : List ℕ) (q : Search) (m : Node) (k 
       rw (← above _ _ (enterAt b q m i) (on (orderAt b q m (i + 1)) λ o. byOrder o (atOnce (got skip)) (enterAt b q m i) (enterAt b q m i)) _ j refl, t) (of d a)
     where
       of : m .nkeys - (i + 1) ≡ suc n → (x : Answer Order) → act f (counted s (on x λ o. byOrder o (atOnce (got skip)) (enterAt b q m i) (enterAt b q m i))) (each f b q m (suc n) (i + 1) k)
-          ≡ seekThen f b q m (nextThen x i (seekIn (bytesOf b q m) m (q .info) (q .id) (q .kind) (suc n) (i + 1))) k s
+          ≡ seekThen f b q m (nextThen x i (seekIn (bytesOf b q m) m (q .keys .info) (q .keys .id) (q .keys .kind) (suc n) (i + 1))) k s
       of d (got Below) = e
       of d (got Inside) = rw d
       of d (got Above) = rw d
@@ -133,7 +133,7 @@ module _ (f : Node → Tail → Tail) (b : List ℕ) (q : Search) (m : Node) (k 
   each-here n i (got Above) x t e = rw t
   each-here n i (no w) x t e = rw t
 
-  each-by : (n i : ℕ) → n ≡ m .nkeys - i → each f b q m n i k s ≡ seekThen f b q m (seekIn (bytesOf b q m) m (q .info) (q .id) (q .kind) n i) k s
+  each-by : (n i : ℕ) → n ≡ m .nkeys - i → each f b q m n i k s ≡ seekThen f b q m (seekIn (bytesOf b q m) m (q .keys .info) (q .keys .id) (q .keys .kind) n i) k s
   unfolding each seekIn
   each-by zero i h = refl
   each-by (suc n) i h =

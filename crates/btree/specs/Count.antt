@@ -32,7 +32,7 @@ pub record EntryPath (b : List ℕ) (q : Search) (m : Node) (i : ℕ) (t : Throu
   pub stopped : t .answer ≡ got stop → t .path ≡ []
   pub skipped : t .answer ≡ got skip → t .path ≡ []
   pub entered : (c : Node) → t .answer ≡ got (into c) →
-      (child : ℕ) × (childAt (bytesOf b q m) m (q .info) i ≡ got child) × (t .path ≡ namePath (q .reader) b (q .resolve) child ++ (c .block ∷ []))
+      (child : ℕ) × (childAt (bytesOf b q m) m (q .keys .info) i ≡ got child) × (t .path ≡ namePath (q .keys .reader) b (q .resolve) child ++ (c .block ∷ []))
 
 -- the count goes up by the length of the path, and stays at 2^64 − 1
 pub record CountsPath (b : List ℕ) (q : Search) : Type 0 where

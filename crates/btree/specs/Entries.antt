@@ -30,7 +30,7 @@ use Rattle.btree.specs.declared.entries.Entering.{Entering}
 
 -- the bytes of a node's block
 abbrev pub bytesOf : List ℕ → Search → Node → List ℕ
-bytesOf b q m = blockOf (q .reader) b (m .block)
+bytesOf b q m = blockOf (q .keys .reader) b (m .block)
 
 -- the bytes of a record's key and of its value (document 01, "What must change shape": `scan` "answers places in the image")
 unfoldable pub keyOf : Reader → List ℕ → Place → List ℕ
@@ -58,7 +58,7 @@ unfoldable pub orderIn : List ℕ → Node → Info → ℕ → ℕ → ℕ → 
 orderIn b m info id kind i = keyValueAt b m info i >>= λ e. keyOrder id kind (partOf b (e .key))
 
 abbrev pub orderAt : List ℕ → Search → Node → ℕ → Answer Order
-orderAt b q m i = orderIn (bytesOf b q m) m (q .info) (q .id) (q .kind) i
+orderAt b q m i = orderIn (bytesOf b q m) m (q .keys .info) (q .keys .id) (q .keys .kind) i
 
 unfoldable pub byOrder : {A : Type 0} → Order → A → A → A → A
 byOrder Below x y z = x
@@ -90,7 +90,7 @@ itemIn b m info id kind i =
     byOrder o (got passOver) (got (recordOf m (e .key) (e .value))) (got endScan)
 
 abbrev pub itemAt : List ℕ → Search → Node → ℕ → Answer Leaf
-itemAt b q m i = itemIn (bytesOf b q m) m (q .info) (q .id) (q .kind) i
+itemAt b q m i = itemIn (bytesOf b q m) m (q .keys .info) (q .keys .id) (q .keys .kind) i
 
 -- what a scan does at an entry of an index node (btree.rs, `scan_node`)
 pub data Act : Type 0 where
@@ -108,13 +108,13 @@ enteringTold t = after (t .nodes) (intoTold (t .node))
 -- the node of a child: its name may be looked up in an object map, and it is gone through once its block has passed as a node (btree.rs, `read_child`)
 unfoldable pub childNode : List ℕ → Search → ℕ → Through Act
 childNode b q child =
-    andThen (resolve (q .reader) b (q .resolve) child) λ p.
-    on (nodeAt (q .reader) b p) λ c.
+    andThen (resolve (q .keys .reader) b (q .resolve) child) λ p.
+    on (nodeAt (q .keys .reader) b p) λ c.
     by p (atOnce (got (into c)))
 
 -- the child of the i-th entry
 unfoldable pub enterAt : List ℕ → Search → Node → ℕ → Through Act
-enterAt b q m i = on (childAt (bytesOf b q m) m (q .info) i) (childNode b q)
+enterAt b q m i = on (childAt (bytesOf b q m) m (q .keys .info) i) (childNode b q)
 
 -- an entry whose next is still below is skipped, any other's child is entered: the next is read before the child (btree.rs, `scan_node`)
 unfoldable pub followAt : List ℕ → Search → Node → ℕ → Through Act

@@ -7,6 +7,7 @@ use mathlib.Core.Bool.{Bool, true, false}
 use mathlib.Core.Option.{Option, none, some}
 use Rattle.error.specs.Answer.{Answer, got, no, ifLe, ifEq}
 use Rattle.error.specs.declared.Refusal.the-variants.{Corrupt}
+use Rattle.obj.specs.Block.{blockOf}
 use Rattle.node.specs.Node.{leafBit}
 use Rattle.node.specs.declared.layout.Node.{Node}
 use Rattle.node.specs.declared.layout.Info.{Info}
@@ -17,6 +18,7 @@ use Rattle.lookup.specs.Path.{counted}
 use Rattle.lookup.specs.Read.{nodeAt}
 use Rattle.btree.specs.Entries.{bytesOf, orderIn, orderAt, Leaf, passOver, endScan, recordAt, itemIn, itemAt, Act, stop, skip, into, enterAt, turnAt}
 use Rattle.btree.specs.Scan.{Run, more, end, refused, Tail, nth}
+use Rattle.btree.specs.declared.entries.Keys.{Keys}
 use Rattle.btree.specs.declared.entries.Search.{Search}
 use Rattle.btree.specs.declared.entries.Place.{Place}
 use Rattle.btree.specs.declared.entries.Order.{Order}
@@ -57,8 +59,11 @@ unfoldable pub inLeaf : List ℕ → Node → Info → ℕ → ℕ → ℕ → �
 inLeaf b m info id kind zero i = leaf.Passed
 inLeaf b m info id kind (suc n) i = itemThen (itemIn b m info id kind i) (i + 1) (inLeaf b m info id kind n (i + 1))
 
+abbrev pub inKeyed : List ℕ → Keys → Node → ℕ → InLeaf
+inKeyed b k m i = inLeaf (blockOf (k .reader) b (m .block)) m (k .info) (k .id) (k .kind) (m .nkeys - i) i
+
 abbrev pub inNode : List ℕ → Search → Node → ℕ → InLeaf
-inNode b q m i = inLeaf (bytesOf b q m) m (q .info) (q .id) (q .kind) (m .nkeys - i) i
+inNode b q m i = inKeyed b (q .keys) m i
 
 -- what such a record stands for, where k follows the leaf: `leafFrom` (`leaf-in`, proofs/Leaves.antt)
 abbrev pub inThen : List ℕ → Search → Node → InLeaf → ℕ → Run → Run
@@ -108,7 +113,7 @@ seekIn b m info id kind (suc n) i =
     (followThen n (orderIn b m info id kind (i + 1)) i (seekIn b m info id kind n (i + 1)))
 
 abbrev pub seekAt : List ℕ → Search → Node → ℕ → Seek
-seekAt b q m i = seekIn (bytesOf b q m) m (q .info) (q .id) (q .kind) (m .nkeys - i) i
+seekAt b q m i = seekIn (bytesOf b q m) m (q .keys .info) (q .keys .id) (q .keys .kind) (m .nkeys - i) i
 
 -- the same of an entry that is not above
 unfoldable pub followIn : List ℕ → Node → Info → ℕ → ℕ → ℕ → Seek
@@ -135,7 +140,7 @@ turnThen f b q m (turn.No e) i k s = refused e s
 
 -- the same search for another kind
 abbrev pub kinded : Search → ℕ → Search
-kinded q k = record { reader = q .reader; root = q .root; info = q .info; resolve = q .resolve; id = q .id; kind = k }
+kinded q k = record { keys = record { reader = q .keys .reader; info = q .keys .info; id = q .keys .id; kind = k }; root = q .root; resolve = q .resolve }
 
 abbrev pub notBelow : Answer Order → Bool
 notBelow (got Below) = false
@@ -151,9 +156,9 @@ staysAt b q m i = ifLe (m .nkeys) i true (notBelow (orderAt b q m i))
 pub record Reaches (b : List ℕ) (q : Search) (m : Node) (i s : ℕ) (r : Turned) : Type 0 where
   pub course : (f : Node → Tail → Tail) (k : Tail) → turnThen f b q m (r .turn) (r .next) k (r .nodes) ≡ each f b q m (m .nkeys - i) i k s
   pub behind : (c : Node) → r .turn ≡ turn.Into c → (i < r .next) × (r .next ≤ m .nkeys)
-  pub known : (c : Node) → r .turn ≡ turn.Into c → nodeAt (q .reader) b (c .block) ≡ got c
+  pub known : (c : Node) → r .turn ≡ turn.Into c → nodeAt (q .keys .reader) b (c .block) ≡ got c
   -- a search of the same id and a greater kind goes into the same child, unless the entry behind it is below
-  pub higher : (c : Node) → r .turn ≡ turn.Into c → (k : ℕ) → q .kind < k → staysAt b (kinded q k) m (r .next) ≡ true →
+  pub higher : (c : Node) → r .turn ≡ turn.Into c → (k : ℕ) → q .keys .kind < k → staysAt b (kinded q k) m (r .next) ≡ true →
       (f : Node → Tail → Tail) (t : Tail) → f c (each f b (kinded q k) m (m .nkeys - r .next) (r .next) t) (r .nodes) ≡ each f b (kinded q k) m (m .nkeys - i) i t s
 
 -- a node from its i-th entry on; a leaf is told by its flag, at any level (btree.rs, `is_leaf`)

@@ -21,14 +21,19 @@ ghost use Rattle.error.specs.Answer.{got};
 ghost use Rattle.lookup.specs.Path.{counted};
 ghost use Rattle.btree.specs.Entries.{keyOf, valueOf, orderTold, keyOrder, orderOf, orderIn, itemTold, itemIn, recordOf, enteringTold, childNode, enterAt};
 
-// The records of an id and a kind in the tree below a root.
-pub struct Search {
+// What is looked for in a node: the keys of an id and a kind.
+pub struct Keys {
     pub reader: Reader,
-    pub root: Node,
     pub info: Info,
-    pub resolve: Resolve,
     pub id: u64,
     pub kind: u8,
+}
+
+// The records of an id and a kind in the tree below a root.
+pub struct Search {
+    pub keys: Keys,
+    pub root: Node,
+    pub resolve: Resolve,
 }
 
 // A record, inside its block.
@@ -171,10 +176,10 @@ fn read_child(image: &[u8], q: Search, child: u64, nodes: u64) -> Entering
     ensures { λ r. ⌜ enteringTold r ≡ counted nodes (childNode (now (image .entry)) q child) ⌝ }
 {
     let resolve = q.resolve;
-    let resolved = resolve_child(q.reader, image, resolve, child, nodes);
+    let resolved = resolve_child(q.keys.reader, image, resolve, child, nodes);
     let paddr = resolved.paddr;
     match paddr {
-        Number::Got(p) => match read_node(q.reader, image, p) {
+        Number::Got(p) => match read_node(q.keys.reader, image, p) {
             Parsed::Got(m) => Entering {
                 node: Parsed::Got(m),
                 nodes: tick(resolved.nodes),
@@ -195,7 +200,7 @@ fn read_child(image: &[u8], q: Search, child: u64, nodes: u64) -> Entering
 pub fn enter(image: &[u8], q: Search, node: Node, i: u32, nodes: u64) -> Entering
     ensures { λ r. ⌜ enteringTold r ≡ counted nodes (enterAt (now (image .entry)) q node i) ⌝ }
 {
-    match child_of(q.reader.block(image, node.block), node, q.info, i) {
+    match child_of(q.keys.reader.block(image, node.block), node, q.keys.info, i) {
         Number::Got(child) => read_child(image, q, child, nodes),
         Number::No(e) => Entering {
             node: Parsed::No(e),

@@ -1,14 +1,14 @@
 // The records of a leaf, one after the other.
 use crate::entries::Item;
+use crate::entries::Keys;
 use crate::entries::Place;
-use crate::entries::Search;
 use crate::entries::item_in;
 use error::Refusal;
 use node::Info;
 use node::Node;
 ghost use mathlib.Core.Path.{_≡_};
 ghost use Prim.Native.Nat.{_-_};
-ghost use Rattle.btree.specs.Inner.{inLeaf, inNode};
+ghost use Rattle.btree.specs.Inner.{inLeaf, inKeyed};
 
 // A record and the entry after it; or the leaf is passed without one, or the scan ends in it.
 pub enum InLeaf {
@@ -37,15 +37,15 @@ fn in_leaf(b: &[u8], node: Node, info: Info, id: u64, kind: u8, from: u32) -> In
 }
 
 // The same of a leaf of the image.
-pub fn next_in(image: &[u8], q: Search, node: Node, from: u32) -> InLeaf
-    ensures { λ r. ⌜ r ≡ inNode (now (image .entry)) q node from ⌝ }
+pub fn next_in(image: &[u8], k: Keys, node: Node, from: u32) -> InLeaf
+    ensures { λ r. ⌜ r ≡ inKeyed (now (image .entry)) k node from ⌝ }
 {
     in_leaf(
-        q.reader.block(image, node.block),
+        k.reader.block(image, node.block),
         node,
-        q.info,
-        q.id,
-        q.kind,
+        k.info,
+        k.id,
+        k.kind,
         from,
     )
 }

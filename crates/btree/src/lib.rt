@@ -7,6 +7,7 @@ mod skip;
 pub use entries::Entering;
 pub use entries::Found;
 pub use entries::Item;
+pub use entries::Keys;
 pub use entries::Order;
 pub use entries::Ordered;
 pub use entries::Place;

@@ -79,11 +79,11 @@ fn seek_at(image: &[u8], q: Search, node: Node, from: u32) -> Seek
     ensures { λ r. ⌜ r ≡ seekAt (now (image .entry)) q node from ⌝ }
 {
     seek_in(
-        q.reader.block(image, node.block),
+        q.keys.reader.block(image, node.block),
         node,
-        q.info,
-        q.id,
-        q.kind,
+        q.keys.info,
+        q.keys.id,
+        q.keys.kind,
         from,
     )
 }
@@ -136,11 +136,11 @@ pub fn stays(image: &[u8], q: Search, node: Node, i: u32) -> bool
         return true;
     }
     match order_in(
-        q.reader.block(image, node.block),
+        q.keys.reader.block(image, node.block),
         node,
-        q.info,
-        q.id,
-        q.kind,
+        q.keys.info,
+        q.keys.id,
+        q.keys.kind,
         i,
     ) {
         Ordered::Got(o) => match o {

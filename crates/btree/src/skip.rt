@@ -43,7 +43,7 @@ fn pass_leaf(image: &[u8], q: Search, node: Node, skip: u64) -> Pass
     let mut left = skip;
     let mut i: u32 = 0;
     loop {
-        match next_in(image, q, node, i) {
+        match next_in(image, q.keys, node, i) {
             InLeaf::Passed => return Pass::Left(left),
             InLeaf::End => return Pass::End,
             InLeaf::No(e) => return Pass::No(e),

@@ -87,7 +87,7 @@ module _ (g : Place → Answer Extent) (b : List ℕ) (q : Search) (s : Step) (i
   apart-next z e a h k = list-at g b q s i x t (ordering v last) whole inv (ordering z e) e a h (ordering-next v z last e k)
 
 pub apart-done : (b : List ℕ) (q : Search) (m : Run) (n : ℕ) (x : Ruling) (r : Settled) → r ≡ record { ruling = x; nodes = n }
-    → after n (ruled x) ≡ (onto (listOf (extentAt (q .reader) b) m) λ es t. after t (apart es)) → settledTold r ≡ apartOf b q m
+    → after n (ruled x) ≡ (onto (listOf (extentAt (q .keys .reader) b) m) λ es t. after t (apart es)) → settledTold r ≡ apartOf b q m
 unfolding apartOf
 apart-done b q m n x r h g = rw h g
 
@@ -113,14 +113,14 @@ module _ (b : List ℕ) (q : Search) (size : ℕ) (s : Run) (a : Settled) (p : s
   whole-no w h e =
       let k : after (a .nodes) (no w) ≡ settledTold a = ap (λ (x : Ruling). after (a .nodes) (ruled x)) (sym h) in
       ap settledTold e
-      ∙ first-no (listOf (extentAt (q .reader) b) s .nodes) apart (judgeOf (diskOf (q .reader) b) 0 size) (listOf (extentAt (q .reader) b) s .answer) (a .nodes) w (k ∙ p)
+      ∙ first-no (listOf (extentAt (q .keys .reader) b) s .nodes) apart (judgeOf (diskOf (q .keys .reader) b) 0 size) (listOf (extentAt (q .keys .reader) b) s .answer) (a .nodes) w (k ∙ p)
 
   pub whole-judged : (j : Judged) (x : Ruling) → a .ruling ≡ Ruling.Fine → judgedTold b q j ≡ judgedOf b q 0 size s → x ≡ j .ruling → r ≡ record { ruling = x; nodes = j .nodes } → settledTold r ≡ wholeOver b q size s
   unfolding apartOf wholeOver wholeVerdict
   whole-judged j x h d y e =
       let k : after (a .nodes) fine ≡ settledTold a = ap (λ (z : Ruling). after (a .nodes) (ruled z)) (sym h) in
       ap settledTold e ∙ ap (λ (z : Ruling). after (j .nodes) (ruled z)) y
-      ∙ then-second (listOf (extentAt (q .reader) b) s .nodes) apart (judgeOf (diskOf (q .reader) b) 0 size) (listOf (extentAt (q .reader) b) s .answer) (a .nodes) (j .nodes) (ruled (j .ruling)) (k ∙ p) (told-decided b q 0 size s j d .verdict)
+      ∙ then-second (listOf (extentAt (q .keys .reader) b) s .nodes) apart (judgeOf (diskOf (q .keys .reader) b) 0 size) (listOf (extentAt (q .keys .reader) b) s .answer) (a .nodes) (j .nodes) (ruled (j .ruling)) (k ∙ p) (told-decided b q 0 size s j d .verdict)
 
 pub whole-done : (b : List ℕ) (v : Volume) (i : Inode) (size : ℕ) (q : Search) (t : Step) (r : Settled) → q ≡ searchOf v (i .ids .«private_id») 8 → size ≡ sizeOf i
     → settledTold r ≡ wholeOver b q size (runAt b q t (t .from)) → settledTold r ≡ wholeFrom b v i (runAt b (searchOf v (i .ids .«private_id») 8) t (t .from))

@@ -22,14 +22,14 @@ apartAfter v last e = v >> atMost (end last) (e .logical) Corrupt fine
 
 -- no extent of a run starts before its predecessor's end
 unfoldable pub apartOf : List ℕ → Search → Run → Counted (Unit {0})
-apartOf b q r = onto (listOf (extentAt (q .reader) b) r) λ es t. after t (apart es)
+apartOf b q r = onto (listOf (extentAt (q .keys .reader) b) r) λ es t. after t (apart es)
 
 -- what the whole read of a file of that size refuses
 unfoldable pub wholeVerdict : Disk → ℕ → List Extent → Verdict
 wholeVerdict d size es = apart es >> judgeOf d 0 size es
 
 unfoldable pub wholeOver : List ℕ → Search → ℕ → Run → Counted (Unit {0})
-wholeOver b q size r = onto (listOf (extentAt (q .reader) b) r) λ es t. after t (wholeVerdict (diskOf (q .reader) b) size es)
+wholeOver b q size r = onto (listOf (extentAt (q .keys .reader) b) r) λ es t. after t (wholeVerdict (diskOf (q .keys .reader) b) size es)
 
 -- the same of a file's extents
 unfoldable pub wholeFrom : List ℕ → Volume → Inode → Run → Counted (Unit {0})

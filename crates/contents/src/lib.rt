@@ -51,6 +51,7 @@ fn apart_after(ruling: Ruling, last: Extent, e: Extent) -> Ruling
 fn apart(image: &[u8], q: Search, start: Step) -> Settled
     ensures { λ r. ⌜ settledTold r ≡ apartOf (now (image .entry)) q (runAt (now (image .entry)) q start (start .from)) ⌝ }
 {
+    let keys = q.keys;
     let mut ruling = Ruling::Fine;
     let mut last = Extent {
         logical: 0,
@@ -61,7 +62,7 @@ fn apart(image: &[u8], q: Search, start: Step) -> Settled
     let mut i = s.from;
     loop {
         let at = s.reached;
-        match extent_in(image, q, at, i) {
+        match extent_in(image, keys, at, i) {
             ExtentIn::Over => return with_nodes(ruling, s.nodes),
             ExtentIn::No(w) => return with_nodes(Ruling::No(w), s.nodes),
             ExtentIn::Passed => {

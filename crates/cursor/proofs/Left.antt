@@ -18,7 +18,8 @@ use Rattle.node.specs.declared.layout.Parsed.{Parsed}
 use Rattle.lookup.specs.Read.{nodeAt}
 use Rattle.lookup.proofs.Again.{read-again, again-block}
 use Rattle.btree.specs.Scan.{Run, end, refused, Tail, scanOf}
-use Rattle.btree.specs.Inner.{leafFrom, inNode, each, Reaches, child, walk}
+use Rattle.btree.specs.Inner.{leafFrom, inKeyed, inNode, each, Reaches, child, walk}
+use Rattle.btree.specs.declared.entries.Keys.{Keys}
 use Rattle.btree.specs.declared.entries.Search.{Search}
 use Rattle.btree.specs.declared.entries.Place.{Place}
 use Rattle.btree.specs.declared.leaf.InLeaf.{InLeaf}
@@ -27,7 +28,7 @@ use Rattle.btree.specs.declared.seek.Turn.the-variants as turn
 use Rattle.btree.specs.declared.seek.Turned.{Turned}
 use Rattle.btree.proofs.Leaves.{in-bound, in-back, leaf-jump}
 use Rattle.btree.proofs.Turns.{leaf-passed, leaf-end, leaf-no, as-index, node-leaf, child-on, each-into, root-low}
-use Rattle.cursor.specs.Left.{topOf, noMark, nodeOn, goOn, levels, left, reachedRun, runAt, inStep, Begins}
+use Rattle.cursor.specs.Left.{topOf, noMark, nodeOn, goOn, levels, left, reachedRun, runAt, inReached, inStep, Begins}
 use Rattle.cursor.specs.Inner.{markOf, withMark, Known, onward, partThen, partRun, Makes, inWhole}
 use Rattle.cursor.specs.declared.path.Mark.{Mark}
 use Rattle.cursor.specs.declared.path.Path.{Path}
@@ -43,15 +44,15 @@ module _ (b : List ℕ) (q : Search) where
   unfolding nodeOn
   known-root = sym (same _ _ _ _ _ refl refl)
 
-  pub known-child : (level : ℕ) (m : Node) → level < q .root .level → nodeAt (q .reader) b (m .block) ≡ got m → Known b q level m
+  pub known-child : (level : ℕ) (m : Node) → level < q .root .level → nodeAt (q .keys .reader) b (m .block) ≡ got m → Known b q level m
   unfolding nodeOn
-  known-child level m h e = sym (other _ _ _ _ _ (λ z. omega arith) (sym (read-again (q .reader) b (m .block) m e)))
+  known-child level m h e = sym (other _ _ _ _ _ (λ z. omega arith) (sym (read-again (q .keys .reader) b (m .block) m e)))
 
   pub known-again : (level block : ℕ) (m : Node) → nodeOn b q level block ≡ got m → Known b q level m
   unfolding nodeOn
   known-again level block m = eq-cases (λ (a : Answer Node). a ≡ got m → Known b q level m) (λ z e. sym (same _ _ _ _ _ z (sym e))) (λ z e.
-      let j : m .block ≡ block = again-block block (blockOf (q .reader) b block) m e in
-      let f : nodeOf (m .block) (blockOf (q .reader) b (m .block)) ≡ got m = ap (λ (x : ℕ). nodeOf x (blockOf (q .reader) b x)) j ∙ e in
+      let j : m .block ≡ block = again-block block (blockOf (q .keys .reader) b block) m e in
+      let f : nodeOf (m .block) (blockOf (q .keys .reader) b (m .block)) ≡ got m = ap (λ (x : ℕ). nodeOf x (blockOf (q .keys .reader) b x)) j ∙ e in
       sym (other _ _ _ _ _ z (sym f)))
 
   -- what is left of the levels above l, after a mark is put at l
@@ -241,14 +242,14 @@ pub ruleset final = (needs, final-at, final-end, final-no)
 pub ruleset made = (made-passed, made-end, made-no)
 
 -- the first record of a leaf, by what was reached
-module _ (b : List ℕ) (q : Search) (x : Reached) (i : ℕ) where
-  pub in-reached : (m : Node) (z : InLeaf) → x ≡ Reached.Leaf m → z ≡ inNode b q m i → z ≡ inStep b q x i
+module _ (b : List ℕ) (k : Keys) (x : Reached) (i : ℕ) where
+  pub in-reached : (m : Node) (z : InLeaf) → x ≡ Reached.Leaf m → z ≡ inKeyed b k m i → z ≡ inReached b k x i
   in-reached m z e h = rw e h
 
-  pub in-ended : x ≡ Reached.End → leaf.End ≡ inStep b q x i
+  pub in-ended : x ≡ Reached.End → leaf.End ≡ inReached b k x i
   in-ended e = rw e
 
-  pub in-refused : (w : Refusal) → x ≡ Reached.No w → leaf.No w ≡ inStep b q x i
+  pub in-refused : (w : Refusal) → x ≡ Reached.No w → leaf.No w ≡ inReached b k x i
   in-refused w e = rw e
 
 pub ruleset reached = (needs, in-reached, in-ended, in-refused)
@@ -263,6 +264,6 @@ module _ (b : List ℕ) (q : Search) (level block : ℕ) where
   unfolding nodeOn
   on-root e = same _ _ _ _ _ e refl
 
-  pub on-block : (u : List ℕ) (z : Answer Node) → (level ≡ q .root .level → ⊥) → u ≡ blockOf (q .reader) b block → z ≡ nodeOf block u → z ≡ nodeOn b q level block
+  pub on-block : (u : List ℕ) (z : Answer Node) → (level ≡ q .root .level → ⊥) → u ≡ blockOf (q .keys .reader) b block → z ≡ nodeOf block u → z ≡ nodeOn b q level block
   unfolding nodeOn
   on-block u z n e h = other _ _ _ _ _ n (rw e at h)

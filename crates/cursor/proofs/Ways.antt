@@ -103,7 +103,7 @@ pub ruleset records = (needs, record-at, record-passed, record-end, record-no)
 unfoldable pub Led : List ℕ → Search → ℕ → ℕ → Node → Path → ℕ → Type 0
 Led b q s level m c n =
     (level ≤ topOf q) × Known b q level m × Comes b q s level m 0 c n
-    × ((k : ℕ) → q .kind < k → staysOn b (kinded q k) c level ≡ true → Comes b (kinded q k) s level m 0 c n)
+    × ((k : ℕ) → q .keys .kind < k → staysOn b (kinded q k) c level ≡ true → Comes b (kinded q k) s level m 0 c n)
 
 module _ (b : List ℕ) (q : Search) (s : ℕ) where
   pub led-high : (w : Way) → 32 < q .root .level → Leads b q s w
@@ -230,7 +230,7 @@ module _ (b : List ℕ) (q : Search) (s : ℕ) (w : Way) (l : Leads b q s w) (h 
     unfolding nodeOn
     higher-low = rw e (l .low h)
 
-    pub leads-higher : (r : Step) (z : Bool) → q .kind < k → z ≡ staysOn b x (w .path) (w .level) → not z ≡ false →
+    pub leads-higher : (r : Step) (z : Bool) → q .keys .kind < k → z ≡ staysOn b x (w .path) (w .level) → not z ≡ false →
         Begins b x r (walk b x (w .level) (w .node) (w .from) (left b x (w .path) (w .level)) (w .nodes)) → Begins b (kinded q k) r (scanOf b (kinded q k) s)
     leads-higher r z lt f g d = rw (l .higher k lt h (sym (rw e at f) ∙ not-false z g)) at (rw e at d)
 

@@ -10,7 +10,8 @@ use Rattle.obj.specs.Block.{blockOf}
 use Rattle.node.specs.Node.{nodeOf}
 use Rattle.node.specs.declared.layout.Node.{Node}
 use Rattle.btree.specs.Scan.{Run, end, refused, Tail}
-use Rattle.btree.specs.Inner.{leafFrom, inNode, walk}
+use Rattle.btree.specs.Inner.{leafFrom, inKeyed, walk}
+use Rattle.btree.specs.declared.entries.Keys.{Keys}
 use Rattle.btree.specs.declared.entries.Search.{Search}
 use Rattle.btree.specs.declared.leaf.InLeaf.{InLeaf}
 use Rattle.btree.specs.declared.leaf.InLeaf.the-variants as leaf
@@ -26,7 +27,7 @@ topOf q = min (q .root .level) 32
 
 -- the node of a level on the path: the root, or what its block holds
 unfoldable pub nodeOn : List ℕ → Search → ℕ → ℕ → Answer Node
-nodeOn b q level block = ifEq level (q .root .level) (got (q .root)) (nodeOf block (blockOf (q .reader) b block))
+nodeOn b q level block = ifEq level (q .root .level) (got (q .root)) (nodeOf block (blockOf (q .keys .reader) b block))
 
 abbrev pub noMark : Mark
 noMark = record { block = 0; next = 0 }
@@ -55,10 +56,13 @@ unfoldable pub runAt : List ℕ → Search → Step → ℕ → Run
 runAt b q t i = reachedRun b q (t .reached) i (t .nodes) (left b q (t .path) (t .level) (t .nodes))
 
 -- the first record of it that stands in the leaf
+abbrev pub inReached : List ℕ → Keys → Reached → ℕ → InLeaf
+inReached b k (Leaf m) i = inKeyed b k m i
+inReached b k End i = leaf.End
+inReached b k (No e) i = leaf.No e
+
 abbrev pub inStep : List ℕ → Search → Reached → ℕ → InLeaf
-inStep b q (Leaf m) i = inNode b q m i
-inStep b q End i = leaf.End
-inStep b q (No e) i = leaf.No e
+inStep b q x i = inReached b (q .keys) x i
 
 -- t begins a run: at a record, or where the run ends
 pub record Begins (b : List ℕ) (q : Search) (t : Step) (whole : Run) : Type 0 where

@@ -48,5 +48,5 @@ Comes b q s level m i c n = walk b q level m i (left b q c level) n ≡ scanOf b
 pub record Leads (b : List ℕ) (q : Search) (s : ℕ) (w : Way) : Type 0 where
   pub low : q .root .level ≤ 32 → (w .level ≤ topOf q) × Known b q (w .level) (w .node)
   pub own : q .root .level ≤ 32 → Comes b q s (w .level) (w .node) (w .from) (w .path) (w .nodes)
-  pub higher : (k : ℕ) → q .kind < k → q .root .level ≤ 32 → staysOn b (kinded q k) (w .path) (w .level) ≡ true →
+  pub higher : (k : ℕ) → q .keys .kind < k → q .root .level ≤ 32 → staysOn b (kinded q k) (w .path) (w .level) ≡ true →
       Comes b (kinded q k) s (w .level) (w .node) (w .from) (w .path) (w .nodes)

@@ -63,5 +63,5 @@ pub fn node_on(image: &[u8], q: Search, level: u16, block: u64) -> Parsed
     if level == root.level {
         return Parsed::Got(root);
     }
-    parse(q.reader.block(image, block), block)
+    parse(q.keys.reader.block(image, block), block)
 }

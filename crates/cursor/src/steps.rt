@@ -10,6 +10,7 @@ use crate::walk::part_step;
 use crate::walk::walk_from;
 use arith::tick;
 use btree::InLeaf;
+use btree::Keys;
 use btree::Search;
 use btree::next_in;
 use error::Refusal;
@@ -17,7 +18,7 @@ use node::Node;
 use node::Parsed;
 ghost use mathlib.Core.Path.{_≡_};
 ghost use Rattle.btree.specs.Scan.{scanOf};
-ghost use Rattle.cursor.specs.Left.{left, inStep, Begins};
+ghost use Rattle.cursor.specs.Left.{left, inReached, Begins};
 ghost use Rattle.cursor.specs.Inner.{inWhole};
 
 // A leaf that the scan has come to, or how the scan ended.
@@ -37,11 +38,11 @@ pub struct Step {
 }
 
 // The first record of a leaf from an entry on.
-pub fn in_leaf(image: &[u8], q: Search, reached: Reached, from: u32) -> InLeaf
-    ensures { λ r. ⌜ r ≡ inStep (now (image .entry)) q reached from ⌝ }
+pub fn in_leaf(image: &[u8], k: Keys, reached: Reached, from: u32) -> InLeaf
+    ensures { λ r. ⌜ r ≡ inReached (now (image .entry)) k reached from ⌝ }
 {
     match reached {
-        Reached::Leaf(m) => next_in(image, q, m, from),
+        Reached::Leaf(m) => next_in(image, k, m, from),
         Reached::End => InLeaf::End,
         Reached::No(e) => InLeaf::No(e),
     }

@@ -59,7 +59,7 @@ fn leaf_from(
 ) -> PartStep
     ensures { λ r. ⌜ Makes (now (image .entry)) q r (left (now (image .entry)) q c level) (leafFrom (now (image .entry)) q node (node .nkeys - from) from nodes (left (now (image .entry)) q c level nodes)) ⌝ }
 {
-    match next_in(image, q, node, from) {
+    match next_in(image, q.keys, node, from) {
         InLeaf::At(_, after) => part_step(InPart::At(node), after - 1, level, c, nodes),
         InLeaf::Passed => part_step(InPart::Passed, from, level, c, nodes),
         InLeaf::End => part_step(InPart::End, from, level, c, nodes),
@@ -121,7 +121,7 @@ fn descend(
     c: Path,
     nodes: u64,
 ) -> PartStep
-    requires { ⌜ (level ≤ topOf q) × Known (now image) q level node × (leafBit (node .flags) ≡ 1 → ⊥) × (nodeAt (q .reader) (now image) (m .block) ≡ got m) ⌝ }
+    requires { ⌜ (level ≤ topOf q) × Known (now image) q level node × (leafBit (node .flags) ≡ 1 → ⊥) × (nodeAt (q .keys .reader) (now image) (m .block) ≡ got m) ⌝ }
     ensures { λ r. ⌜ Makes (now (image .entry)) q r (onward (now (image .entry)) q level node next c) (child (now (image .entry)) q level m (onward (now (image .entry)) q level node next c) nodes) ⌝ }
 {
     if level == 0 {

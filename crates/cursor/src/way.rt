@@ -56,7 +56,7 @@ fn way_to(node: Node, from: u32, level: u16, path: Path, nodes: u64) -> Way
 fn record_from(image: &[u8], q: Search, node: Node) -> u32
     ensures { λ r. ⌜ r ≡ recordIn (inNode (now (image .entry)) q node 0) ⌝ }
 {
-    match next_in(image, q, node, 0) {
+    match next_in(image, q.keys, node, 0) {
         InLeaf::At(_, after) => after - 1,
         InLeaf::Passed => 0,
         InLeaf::End => 0,
@@ -144,7 +144,7 @@ fn begin_leaf(image: &[u8], q: Search, w: Way) -> Step
     ensures { λ r. ⌜ Begins (now (image .entry)) q r (leafFrom (now (image .entry)) q (w .node) (w .node .nkeys - w .from) (w .from) (w .nodes) (left (now (image .entry)) q (w .path) (w .level) (w .nodes))) ⌝ }
 {
     let node = w.node;
-    match next_in(image, q, node, w.from) {
+    match next_in(image, q.keys, node, w.from) {
         InLeaf::At(_, after) => step_to(Reached::Leaf(node), after - 1, w),
         InLeaf::Passed => {
             let c = w.path;
@@ -198,17 +198,14 @@ pub fn begin(image: &[u8], q: Search, w: Way, nodes: u64) -> Step
 fn with_kind(q: Search, kind: u8) -> Search
     ensures { λ r. ⌜ r ≡ kinded q kind ⌝ }
 {
-    let reader = q.reader;
+    let mut keys = q.keys;
+    keys.kind = kind;
     let root = q.root;
-    let info = q.info;
     let resolve = q.resolve;
     Search {
-        reader: reader,
+        keys: keys,
         root: root,
-        info: info,
         resolve: resolve,
-        id: q.id,
-        kind: kind,
     }
 }
 
@@ -222,7 +219,7 @@ pub fn resume(image: &[u8], q: Search, kind: u8, w: Way, nodes: u64) -> Step
     if 32 < root.level {
         return first(image, higher, nodes);
     }
-    if kind <= q.kind {
+    if kind <= q.keys.kind {
         return first(image, higher, nodes);
     }
     let c = w.path;

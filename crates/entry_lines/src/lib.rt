@@ -62,6 +62,7 @@ fn put_entries(
     ensures { λ r. ⌜ at (now (out .exit)) r ≡ puts room (fitting room (linesOf (v .reader) (now (image .entry)) (drop place (readable (entryAt (v .reader) (now (image .entry))) (runAt (now (image .entry)) (searchOf v id 9) start (start .from)))))) (at (now (out .entry)) 0) ⌝ }
 {
     let q = search(v, id, 9);
+    let keys = q.keys;
     let reader = v.reader;
     let mut n = 0;
     let mut left = place;
@@ -69,7 +70,7 @@ fn put_entries(
     let mut i = s.from;
     loop {
         let at = s.reached;
-        match entry_in(image, q, at, i) {
+        match entry_in(image, keys, at, i) {
             EntryIn::Over => return n,
             EntryIn::No(_) => return n,
             EntryIn::Passed => {

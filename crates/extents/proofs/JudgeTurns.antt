@@ -35,8 +35,8 @@ use Rattle.extents.proofs.JudgeLaws.{judging, judging-start, judging-en
 
 -- what the pass answers, in two parts: the verdict, and where it is fine, a step from which on the extents are those since off
 pub record Decided (b : List ℕ) (q : Search) (off stop : ℕ) (n : Run) (r : Judged) : Type 0 where
-  pub verdict : after (r .nodes) (ruled (r .ruling)) ≡ (onto (listOf (extentAt (q .reader) b) n) λ es t. after t (judgeOf (diskOf (q .reader) b) off stop es))
-  pub near : r .ruling ≡ Fine → readable (extentAt (q .reader) b) (runAt b q (r .kept) (r .from)) ≡ since off (readable (extentAt (q .reader) b) n)
+  pub verdict : after (r .nodes) (ruled (r .ruling)) ≡ (onto (listOf (extentAt (q .keys .reader) b) n) λ es t. after t (judgeOf (diskOf (q .keys .reader) b) off stop es))
+  pub near : r .ruling ≡ Fine → readable (extentAt (q .keys .reader) b) (runAt b q (r .kept) (r .from)) ≡ since off (readable (extentAt (q .keys .reader) b) n)
 
 refused-first : {A : Type 0} (v : Verdict) (y : A) (w : Refusal) → (v >> got y) ≡ no w → v ≡ no w
 refused-first (got tt) y w e = absurd (let z : _≡_ {A = ℕ} 0 1 = cc in omega arith)
@@ -94,29 +94,29 @@ module _ (judge : List Extent → Verdict) (pick : List Extent → List Extent) 
 
 module _ (b : List ℕ) (q : Search) (off stop : ℕ) (n : Run) (r : Judged) where
   -- the extents of the run, and their list
-  all-held : (es : List Extent) → listOf (extentAt (q .reader) b) n .answer ≡ got es → readable (extentAt (q .reader) b) n ≡ es
-  all-held es h = listed (extentAt (q .reader) b) n es h
+  all-held : (es : List Extent) → listOf (extentAt (q .keys .reader) b) n .answer ≡ got es → readable (extentAt (q .keys .reader) b) n ≡ es
+  all-held es h = listed (extentAt (q .keys .reader) b) n es h
 
   decided-told : Decided b q off stop n r → judgedTold b q r ≡ judgedOf b q off stop n
   unfolding judgedOf
   decided-told w =
-      part-whole (judgeOf (diskOf (q .reader) b) off stop) (since off) (r .nodes) (readable (extentAt (q .reader) b) (runAt b q (r .kept) (r .from))) (readable (extentAt (q .reader) b) n)
-      (listOf (extentAt (q .reader) b) n .nodes) (listOf (extentAt (q .reader) b) n .answer) (r .ruling) all-held (w .verdict) (w .near)
+      part-whole (judgeOf (diskOf (q .keys .reader) b) off stop) (since off) (r .nodes) (readable (extentAt (q .keys .reader) b) (runAt b q (r .kept) (r .from))) (readable (extentAt (q .keys .reader) b) n)
+      (listOf (extentAt (q .keys .reader) b) n .nodes) (listOf (extentAt (q .keys .reader) b) n .answer) (r .ruling) all-held (w .verdict) (w .near)
 
   pub told-decided : judgedTold b q r ≡ judgedOf b q off stop n → Decided b q off stop n r
   unfolding judgedOf
   told-decided e = record {
-    verdict = whole-verdict (judgeOf (diskOf (q .reader) b) off stop) (since off) (r .nodes) (readable (extentAt (q .reader) b) (runAt b q (r .kept) (r .from))) (readable (extentAt (q .reader) b) n)
-        (listOf (extentAt (q .reader) b) n .nodes) (listOf (extentAt (q .reader) b) n .answer) (r .ruling) e;
-    near = whole-near (judgeOf (diskOf (q .reader) b) off stop) (since off) (r .nodes) (readable (extentAt (q .reader) b) (runAt b q (r .kept) (r .from))) (readable (extentAt (q .reader) b) n)
-        (listOf (extentAt (q .reader) b) n .nodes) (listOf (extentAt (q .reader) b) n .answer) (r .ruling) all-held e;
+    verdict = whole-verdict (judgeOf (diskOf (q .keys .reader) b) off stop) (since off) (r .nodes) (readable (extentAt (q .keys .reader) b) (runAt b q (r .kept) (r .from))) (readable (extentAt (q .keys .reader) b) n)
+        (listOf (extentAt (q .keys .reader) b) n .nodes) (listOf (extentAt (q .keys .reader) b) n .answer) (r .ruling) e;
+    near = whole-near (judgeOf (diskOf (q .keys .reader) b) off stop) (since off) (r .nodes) (readable (extentAt (q .keys .reader) b) (runAt b q (r .kept) (r .from))) (readable (extentAt (q .keys .reader) b) n)
+        (listOf (extentAt (q .keys .reader) b) n .nodes) (listOf (extentAt (q .keys .reader) b) n .answer) (r .ruling) all-held e;
   }
 
 -- where j is known, cur is what is left of the run n, and kept what is left from the kept entry on
 pub record Going (b : List ℕ) (q : Search) (off stop : ℕ) (n : Run) (j : Judging) (cur kept : Run) : Type 0 where
-  pub goes : reading (extentAt (q .reader) b) (judging (diskOf (q .reader) b) off stop j) cur ≡ (onto (listOf (extentAt (q .reader) b) n) λ es t. after t (judgeOf (diskOf (q .reader) b) off stop es))
-  pub near : j .rises ≡ true → inOrder start (j .last) (readable (extentAt (q .reader) b) cur) ≡ fine
-      → seek off (readable (extentAt (q .reader) b) kept) (readable (extentAt (q .reader) b) cur) ≡ since off (readable (extentAt (q .reader) b) n)
+  pub goes : reading (extentAt (q .keys .reader) b) (judging (diskOf (q .keys .reader) b) off stop j) cur ≡ (onto (listOf (extentAt (q .keys .reader) b) n) λ es t. after t (judgeOf (diskOf (q .keys .reader) b) off stop es))
+  pub near : j .rises ≡ true → inOrder start (j .last) (readable (extentAt (q .keys .reader) b) cur) ≡ fine
+      → seek off (readable (extentAt (q .keys .reader) b) kept) (readable (extentAt (q .keys .reader) b) cur) ≡ since off (readable (extentAt (q .keys .reader) b) n)
 
 rose : (m l : ℕ) (b : Bool) → ifLe m l b false ≡ true → (m ≤ l) × (b ≡ true)
 rose m l b = le-cases (λ (x : Bool). x ≡ true → (m ≤ l) × (b ≡ true)) (λ h e. (h, e)) (λ h e. absurd (let z : _≡_ {A = ℕ} 0 1 = cc in omega arith))
@@ -131,45 +131,45 @@ closing-rises j = of (j .rises)
 module _ (b : List ℕ) (q : Search) (off stop : ℕ) (n : Run) where
   pub judge-start : (j : Judging) → j ≡ record { last = 0; rises = true; ruling = Fine } → Going b q off stop n j n n
   judge-start j h = record {
-    goes = list-start (extentAt (q .reader) b) (judging (diskOf (q .reader) b) off stop j) n
-        ∙ ap (λ (k : List Extent → Verdict). onto (listOf (extentAt (q .reader) b) n) λ es t. after t (k es)) (fun-ext (λ es. judging-start (diskOf (q .reader) b) off stop j es h));
+    goes = list-start (extentAt (q .keys .reader) b) (judging (diskOf (q .keys .reader) b) off stop j) n
+        ∙ ap (λ (k : List Extent → Verdict). onto (listOf (extentAt (q .keys .reader) b) n) λ es t. after t (k es)) (fun-ext (λ es. judging-start (diskOf (q .keys .reader) b) off stop j es h));
     near = λ r c. refl;
   }
 
   -- the next extent in the leaf of a step; x is what was seen, and kept is what is kept
   module _ (j : Judging) (s : Step) (c : ℕ) (kept : Run) (i : Going b q off stop n j (runAt b q s c) kept)
-      (x : Seen Extent) (k : x ≡ seenIn (extentAt (q .reader) b) (inStep b q (s .reached) c)) where
+      (x : Seen Extent) (k : x ≡ seenIn (extentAt (q .keys .reader) b) (inStep b q (s .reached) c)) where
     pub judge-end : x ≡ over → (y : Ruling) (r : Judged) (d : Step) (f : ℕ) → kept ≡ runAt b q d f → ruled y ≡ closing j → r ≡ record { ruling = y; kept = d; from = f; nodes = s .nodes }
         → judgedTold b q r ≡ judgedOf b q off stop n
     unfolding inOrder seek
     judge-end l y r d f u w e =
-        let o : readable (extentAt (q .reader) b) (runAt b q s c) ≡ [] = readable-over (extentAt (q .reader) b) b q s c x k l in
+        let o : readable (extentAt (q .keys .reader) b) (runAt b q s c) ≡ [] = readable-over (extentAt (q .keys .reader) b) b q s c x k l in
         decided-told b q off stop n r (rw e (record {
-          verdict = rw w (ap (after (s .nodes)) (sym (judging-end (diskOf (q .reader) b) off stop j)) ∙ list-over (extentAt (q .reader) b) b q s c x k (judging (diskOf (q .reader) b) off stop j) _ (i .goes) l);
+          verdict = rw w (ap (after (s .nodes)) (sym (judging-end (diskOf (q .keys .reader) b) off stop j)) ∙ list-over (extentAt (q .keys .reader) b) b q s c x k (judging (diskOf (q .keys .reader) b) off stop j) _ (i .goes) l);
           near = λ g. rw (← u) (rw o at (i .near (closing-rises j (sym w ∙ ap ruled g)) (rw o)));
         }))
 
     pub judge-no : (w : Refusal) → x ≡ refusal w → (r : Judged) (d : Step) (f : ℕ) → r ≡ record { ruling = No w; kept = d; from = f; nodes = s .nodes } → judgedTold b q r ≡ judgedOf b q off stop n
     judge-no w l r d f e =
         decided-told b q off stop n r (rw e (record {
-          verdict = list-no (extentAt (q .reader) b) b q s c x k (judging (diskOf (q .reader) b) off stop j) _ (i .goes) w l;
+          verdict = list-no (extentAt (q .keys .reader) b) b q s c x k (judging (diskOf (q .keys .reader) b) off stop j) _ (i .goes) w l;
           near = λ g. absurd (let z : _≡_ {A = ℕ} 0 1 = cc in omega arith);
         }))
 
     -- the leaf is passed
     pub judge-passed : x ≡ passed → (t : Step) → Begins b q t (left b q (s .path) (s .level) (s .nodes)) → Going b q off stop n j (runAt b q t (t .from)) kept
-    judge-passed l t g = rw (run-on (extentAt (q .reader) b) b q s c x k t l g) i
+    judge-passed l t g = rw (run-on (extentAt (q .keys .reader) b) b q s c x k t l g) i
 
-    module _ (e : Extent) (a : ℕ) (l : x ≡ element e a) (y : Judging) (o : OneMore (diskOf (q .reader) b) off stop j e y) where
-      on : reading (extentAt (q .reader) b) (judging (diskOf (q .reader) b) off stop y) (runAt b q s a) ≡ (onto (listOf (extentAt (q .reader) b) n) λ es m. after m (judgeOf (diskOf (q .reader) b) off stop es))
-      on = list-at (extentAt (q .reader) b) b q s c x k (judging (diskOf (q .reader) b) off stop j) _ (i .goes) (judging (diskOf (q .reader) b) off stop y) e a l (judging-next (diskOf (q .reader) b) off stop j y e o)
+    module _ (e : Extent) (a : ℕ) (l : x ≡ element e a) (y : Judging) (o : OneMore (diskOf (q .keys .reader) b) off stop j e y) where
+      on : reading (extentAt (q .keys .reader) b) (judging (diskOf (q .keys .reader) b) off stop y) (runAt b q s a) ≡ (onto (listOf (extentAt (q .keys .reader) b) n) λ es m. after m (judgeOf (diskOf (q .keys .reader) b) off stop es))
+      on = list-at (extentAt (q .keys .reader) b) b q s c x k (judging (diskOf (q .keys .reader) b) off stop j) _ (i .goes) (judging (diskOf (q .keys .reader) b) off stop y) e a l (judging-next (diskOf (q .keys .reader) b) off stop j y e o)
 
-      held : readable (extentAt (q .reader) b) (runAt b q s c) ≡ e ∷ readable (extentAt (q .reader) b) (runAt b q s a)
-      held = readable-at (extentAt (q .reader) b) b q s c x k e a l
+      held : readable (extentAt (q .keys .reader) b) (runAt b q s c) ≡ e ∷ readable (extentAt (q .keys .reader) b) (runAt b q s a)
+      held = readable-at (extentAt (q .keys .reader) b) b q s c x k e a l
 
       -- what was sought from here on
-      from-here : y .rises ≡ true → inOrder start (y .last) (readable (extentAt (q .reader) b) (runAt b q s a)) ≡ fine
-          → seek off (readable (extentAt (q .reader) b) kept) (e ∷ readable (extentAt (q .reader) b) (runAt b q s a)) ≡ since off (readable (extentAt (q .reader) b) n)
+      from-here : y .rises ≡ true → inOrder start (y .last) (readable (extentAt (q .keys .reader) b) (runAt b q s a)) ≡ fine
+          → seek off (readable (extentAt (q .keys .reader) b) kept) (e ∷ readable (extentAt (q .keys .reader) b) (runAt b q s a)) ≡ since off (readable (extentAt (q .keys .reader) b) n)
       unfolding inOrder
       from-here r d =
           let m = rose (j .last) (e .logical) (j .rises) (sym (o .rises) ∙ r) in

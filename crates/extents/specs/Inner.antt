@@ -44,8 +44,8 @@ closing j = pick (j .rises) (ruled (j .ruling)) (no Corrupt)
 
 -- what the pass answers: what it refuses, or else the extents from its kept entry on
 abbrev pub judgedTold : List ℕ → Search → Judged → Counted (List Extent)
-judgedTold b q r = after (r .nodes) (ruled (r .ruling) >> got (readable (extentAt (q .reader) b) (runAt b q (r .kept) (r .from))))
+judgedTold b q r = after (r .nodes) (ruled (r .ruling) >> got (readable (extentAt (q .keys .reader) b) (runAt b q (r .kept) (r .from))))
 
 -- that is: all extents of a run are read, then judged, and those from the last at or before off on are given
 unfoldable pub judgedOf : List ℕ → Search → ℕ → ℕ → Run → Counted (List Extent)
-judgedOf b q off stop r = onto (listOf (extentAt (q .reader) b) r) λ es t. after t (judgeOf (diskOf (q .reader) b) off stop es >> got (since off es))
+judgedOf b q off stop r = onto (listOf (extentAt (q .keys .reader) b) r) λ es t. after t (judgeOf (diskOf (q .keys .reader) b) off stop es >> got (since off es))

@@ -106,7 +106,8 @@ fn kept_of(here: bool, s: Step, before: Step) -> Step
 pub fn judge_from(image: &[u8], q: Search, off: u64, stop: u64, start: Step) -> Judged
     ensures { λ r. ⌜ judgedTold (now (image .entry)) q r ≡ judgedOf (now (image .entry)) q off stop (runAt (now (image .entry)) q start (start .from)) ⌝ }
 {
-    let reader = q.reader;
+    let keys = q.keys;
+    let reader = keys.reader;
     let mut j = Judging {
         last: 0,
         rises: true,
@@ -119,7 +120,7 @@ pub fn judge_from(image: &[u8], q: Search, off: u64, stop: u64, start: Step) -> 
     let mut here = true;
     loop {
         let at = s.reached;
-        match extent_in(image, q, at, i) {
+        match extent_in(image, keys, at, i) {
             ExtentIn::Over => return answer(closed(j), kept_of(here, s, kept), from, s.nodes),
             ExtentIn::No(w) => return answer(Ruling::No(w), kept, from, s.nodes),
             ExtentIn::Passed => {

@@ -64,32 +64,32 @@ module _ (d : Disk) (off m : ℕ) (out whole : List ℕ) where
 
 module _ (b : List ℕ) (q : Search) (off m : ℕ) (s : Step) (i : ℕ) (out whole : List ℕ) where
   abbrev pub Filling : Type 0
-  Filling = Laying (diskOf (q .reader) b) off m (readable (extentAt (q .reader) b) (runAt b q s i)) out whole
+  Filling = Laying (diskOf (q .keys .reader) b) off m (readable (extentAt (q .keys .reader) b) (runAt b q s i)) out whole
 
-  module _ (l : Filling) (x : Seen Extent) (k : x ≡ seenIn (extentAt (q .reader) b) (inStep b q (s .reached) i)) where
+  module _ (l : Filling) (x : Seen Extent) (k : x ≡ seenIn (extentAt (q .keys .reader) b) (inStep b q (s .reached) i)) where
     pub fill-over : x ≡ over → out ≡ whole
-    fill-over y = done (diskOf (q .reader) b) off m out whole (rw (readable-over (extentAt (q .reader) b) b q s i x k y) at l)
+    fill-over y = done (diskOf (q .keys .reader) b) off m out whole (rw (readable-over (extentAt (q .keys .reader) b) b q s i x k y) at l)
 
     pub fill-no : (w : Refusal) → x ≡ refusal w → out ≡ whole
-    fill-no w y = done (diskOf (q .reader) b) off m out whole (rw (readable-no (extentAt (q .reader) b) b q s i x k w y) at l)
+    fill-no w y = done (diskOf (q .keys .reader) b) off m out whole (rw (readable-no (extentAt (q .keys .reader) b) b q s i x k w y) at l)
 
     pub fill-passed : x ≡ seen.passed → (t : Step) → Begins b q t (left b q (s .path) (s .level) (s .nodes)) →
-        Laying (diskOf (q .reader) b) off m (readable (extentAt (q .reader) b) (runAt b q t (t .from))) out whole
-    fill-passed y t g = rw (readable-passed (extentAt (q .reader) b) b q s i x k t y g) l
+        Laying (diskOf (q .keys .reader) b) off m (readable (extentAt (q .keys .reader) b) (runAt b q t (t .from))) out whole
+    fill-passed y t g = rw (readable-passed (extentAt (q .keys .reader) b) b q s i x k t y g) l
 
     module _ (e : Extent) (a : ℕ) (y : x ≡ element e a) where
-      held : Laying (diskOf (q .reader) b) off m (e ∷ readable (extentAt (q .reader) b) (runAt b q s a)) out whole
-      held = rw (readable-at (extentAt (q .reader) b) b q s i x k e a y) at l
+      held : Laying (diskOf (q .keys .reader) b) off m (e ∷ readable (extentAt (q .keys .reader) b) (runAt b q s a)) out whole
+      held = rw (readable-at (extentAt (q .keys .reader) b) b q s i x k e a y) at l
 
       pub fill-halt : off + m ≤ e .logical → out ≡ whole
-      fill-halt v = halted (diskOf (q .reader) b) off m out whole e _ held v
+      fill-halt v = halted (diskOf (q .keys .reader) b) off m out whole e _ held v
 
-      pub fill-allows : e .logical < off + m → allows (diskOf (q .reader) b) off (off + length out) e ≡ fine
-      fill-allows v = allowed (diskOf (q .reader) b) off m out whole e _ held v
+      pub fill-allows : e .logical < off + m → allows (diskOf (q .keys .reader) b) off (off + length out) e ≡ fine
+      fill-allows v = allowed (diskOf (q .keys .reader) b) off m out whole e _ held v
 
-      pub fill-next : e .logical < off + m → (next : List ℕ) → next ≡ lay (diskOf (q .reader) b) off (e ∷ []) out
-          → Laying (diskOf (q .reader) b) off m (readable (extentAt (q .reader) b) (runAt b q s a)) next whole
-      fill-next v next n = laid (diskOf (q .reader) b) off m out whole e _ held v next n
+      pub fill-next : e .logical < off + m → (next : List ℕ) → next ≡ lay (diskOf (q .keys .reader) b) off (e ∷ []) out
+          → Laying (diskOf (q .keys .reader) b) off m (readable (extentAt (q .keys .reader) b) (runAt b q s a)) next whole
+      fill-next v next n = laid (diskOf (q .keys .reader) b) off m out whole e _ held v next n
 
 -- the buffer is cleared first
 module _ (d : Disk) (off k : ℕ) (es : List Extent) (clear : List ℕ) (h : clear ≡ replicate k 0) where

@@ -131,39 +131,39 @@ module _ (b : List ℕ) (q : Search) (size off len s n m : ℕ) (qn : n ≡ min 
   pub file-refused : (e : Refusal) → r .ruling ≡ No e → after (r .nodes) (no e) ≡ readOver b q size off len s
   unfolding readOver
   file-refused e h =
-      list-refuses (listOf (extentAt (q .reader) b) (scanOf b q s)) (judgeOf (diskOf (q .reader) b) off m) (r .nodes) (ruled (r .ruling)) (w .verdict) (λ es. got (bytes (diskOf (q .reader) b) es off n)) e (ap ruled h)
-      ∙ ap (λ (f : List Extent → Answer (List ℕ)). onto (listOf (extentAt (q .reader) b) (scanOf b q s)) λ es t. after t (f es)) (fun-ext (λ es. sym (read-judged (diskOf (q .reader) b) size off len n m qn qm es)))
+      list-refuses (listOf (extentAt (q .keys .reader) b) (scanOf b q s)) (judgeOf (diskOf (q .keys .reader) b) off m) (r .nodes) (ruled (r .ruling)) (w .verdict) (λ es. got (bytes (diskOf (q .keys .reader) b) es off n)) e (ap ruled h)
+      ∙ ap (λ (f : List Extent → Answer (List ℕ)). onto (listOf (extentAt (q .keys .reader) b) (scanOf b q s)) λ es t. after t (f es)) (fun-ext (λ es. sym (read-judged (diskOf (q .keys .reader) b) size off len n m qn qm es)))
 
   module _ (h : r .ruling ≡ Fine) where
-    all : (es : List Extent) × ((listOf (extentAt (q .reader) b) (scanOf b q s) ≡ after (r .nodes) (got es)) × (judgeOf (diskOf (q .reader) b) off m es ≡ fine))
-    all = list-passes (listOf (extentAt (q .reader) b) (scanOf b q s)) (judgeOf (diskOf (q .reader) b) off m) (r .nodes) (ruled (r .ruling)) (w .verdict) (ap ruled h)
+    all : (es : List Extent) × ((listOf (extentAt (q .keys .reader) b) (scanOf b q s) ≡ after (r .nodes) (got es)) × (judgeOf (diskOf (q .keys .reader) b) off m es ≡ fine))
+    all = list-passes (listOf (extentAt (q .keys .reader) b) (scanOf b q s)) (judgeOf (diskOf (q .keys .reader) b) off m) (r .nodes) (ruled (r .ruling)) (w .verdict) (ap ruled h)
 
     -- the extents from the kept step on
-    kept : readable (extentAt (q .reader) b) (runAt b q (r .kept) (r .from)) ≡ since off (all .0)
-    kept = w .near h ∙ rw (listed (extentAt (q .reader) b) (scanOf b q s) (all .0) (ap (λ (c : Counted (List Extent)). c .answer) (all .1 .0)))
+    kept : readable (extentAt (q .keys .reader) b) (runAt b q (r .kept) (r .from)) ≡ since off (all .0)
+    kept = w .near h ∙ rw (listed (extentAt (q .keys .reader) b) (scanOf b q s) (all .0) (ap (λ (c : Counted (List Extent)). c .answer) (all .1 .0)))
 
-    judged : (ascending (all .0) ≡ fine) × (decide (diskOf (q .reader) b) off m (since off (all .0)) ≡ fine)
+    judged : (ascending (all .0) ≡ fine) × (decide (diskOf (q .keys .reader) b) off m (since off (all .0)) ≡ fine)
     unfolding judgeOf
     judged = went _ _ _ (all .1 .1)
 
-    read : readOver b q size off len s ≡ after (r .nodes) (got (bytes (diskOf (q .reader) b) (all .0) off n))
+    read : readOver b q size off len s ≡ after (r .nodes) (got (bytes (diskOf (q .keys .reader) b) (all .0) off n))
     unfolding readOver
-    read = rw (all .1 .0, read-judged (diskOf (q .reader) b) size off len n m qn qm (all .0), all .1 .1)
+    read = rw (all .1 .0, read-judged (diskOf (q .keys .reader) b) size off len n m qn qm (all .0), all .1 .1)
 
-    pub file-ready : 0 < n → Ready (diskOf (q .reader) b) off (off + n) (readable (extentAt (q .reader) b) (runAt b q (r .kept) (r .from)))
+    pub file-ready : 0 < n → Ready (diskOf (q .keys .reader) b) off (off + n) (readable (extentAt (q .keys .reader) b) (runAt b q (r .kept) (r .from)))
     file-ready k =
-        let z : m ≡ off + n = stop-sum (diskOf (q .reader) b) size off len n m qn qm (omega arith) in
-        rw kept (record { decided = ap (λ (x : ℕ). decide (diskOf (q .reader) b) off x (since off (all .0))) (sym z) ∙ judged .1; rising = seek-rises off 0 (all .0) (all .0) (judged .0) (judged .0) })
+        let z : m ≡ off + n = stop-sum (diskOf (q .keys .reader) b) size off len n m qn qm (omega arith) in
+        rw kept (record { decided = ap (λ (x : ℕ). decide (diskOf (q .keys .reader) b) off x (since off (all .0))) (sym z) ∙ judged .1; rising = seek-rises off 0 (all .0) (all .0) (judged .0) (judged .0) })
 
     pub file-none : n ≡ 0 → after (r .nodes) (got []) ≡ readOver b q size off len s
     file-none z =
-        let e : bytes (diskOf (q .reader) b) (all .0) off n ≡ [] = ap (bytes (diskOf (q .reader) b) (all .0) off) z ∙ bytes-none (diskOf (q .reader) b) (all .0) off in
+        let e : bytes (diskOf (q .keys .reader) b) (all .0) off n ≡ [] = ap (bytes (diskOf (q .keys .reader) b) (all .0) off) z ∙ bytes-none (diskOf (q .keys .reader) b) (all .0) off in
         rw (read, e)
 
-    pub file-bytes : (bs : List ℕ) → bs ≡ lay (diskOf (q .reader) b) off (readable (extentAt (q .reader) b) (runAt b q (r .kept) (r .from))) (replicate n 0) → after (r .nodes) (got bs) ≡ readOver b q size off len s
+    pub file-bytes : (bs : List ℕ) → bs ≡ lay (diskOf (q .keys .reader) b) off (readable (extentAt (q .keys .reader) b) (runAt b q (r .kept) (r .from))) (replicate n 0) → after (r .nodes) (got bs) ≡ readOver b q size off len s
     unfolding bytes
     file-bytes bs e =
-        let f : bs ≡ bytes (diskOf (q .reader) b) (all .0) off n = e ∙ rw kept (lay-start (diskOf (q .reader) b) off (since off (all .0)) n) in
+        let f : bs ≡ bytes (diskOf (q .keys .reader) b) (all .0) off n = e ∙ rw kept (lay-start (diskOf (q .keys .reader) b) off (since off (all .0)) n) in
         rw (f, read)
 
 pub part-length : (n k : ℕ) (out : List ℕ) → n ≡ min (length out) k → n ≡ length (take n out)
@@ -181,14 +181,14 @@ module _ (b : List ℕ) (q : Search) (size off s n m : ℕ) (out : List ℕ) (qn
   call-none h z = told-none _ (r .nodes) out (file-none b q size off (length out) s n m qn qm r w h z)
 
   pub call-ready : r .ruling ≡ Fine → (n ≡ 0 → ⊥) → size < 2 ^ 64
-      → (off + length (take n out) < 2 ^ 64) × Ready (diskOf (q .reader) b) off (off + length (take n out)) (readable (extentAt (q .reader) b) (runAt b q (r .kept) (r .from)))
+      → (off + length (take n out) < 2 ^ 64) × Ready (diskOf (q .keys .reader) b) off (off + length (take n out)) (readable (extentAt (q .keys .reader) b) (runAt b q (r .kept) (r .from)))
   call-ready h z k = rw (← part-length n (size - off) out qn) (omega arith, file-ready b q size off (length out) s n m qn qm r w h (omega arith))
 
-  pub call-filled : r .ruling ≡ Fine → (bs : List ℕ) → bs ≡ lay (diskOf (q .reader) b) off (readable (extentAt (q .reader) b) (runAt b q (r .kept) (r .from))) (replicate (length (take n out)) 0)
+  pub call-filled : r .ruling ≡ Fine → (bs : List ℕ) → bs ≡ lay (diskOf (q .keys .reader) b) off (readable (extentAt (q .keys .reader) b) (runAt b q (r .kept) (r .from))) (replicate (length (take n out)) 0)
       → readTold (record { count = number.Got n; nodes = r .nodes }) (bs ++ drop n out) ≡ answered (readOver b q size off (length out) s) out
   call-filled h bs l =
-      let f : bs ≡ lay (diskOf (q .reader) b) off (readable (extentAt (q .reader) b) (runAt b q (r .kept) (r .from))) (replicate n 0) = rw (← part-length n (size - off) out qn) at l in
-      told-bytes _ (r .nodes) out n bs (rw f (lay-length (diskOf (q .reader) b) off _ (replicate n 0) ∙ length-replicate n 0)) (omega arith) (file-bytes b q size off (length out) s n m qn qm r w h bs f)
+      let f : bs ≡ lay (diskOf (q .keys .reader) b) off (readable (extentAt (q .keys .reader) b) (runAt b q (r .kept) (r .from))) (replicate n 0) = rw (← part-length n (size - off) out qn) at l in
+      told-bytes _ (r .nodes) out n bs (rw f (lay-length (diskOf (q .keys .reader) b) off _ (replicate n 0) ∙ length-replicate n 0)) (omega arith) (file-bytes b q size off (length out) s n m qn qm r w h bs f)
 
 module _ (b : List ℕ) (v : Volume) (i : Inode) (off len s : ℕ) (out : List ℕ) where
   pub file-compressed : compressed i ≡ 1 → readTold (record { count = number.No Unsupported; nodes = s }) out ≡ answered (readFile b v i off len s) out

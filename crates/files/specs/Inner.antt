@@ -31,7 +31,7 @@ pub record Ready (d : Disk) (off stop : ℕ) (es : List Extent) : Type 0 where
 
 -- a read over the extents that a search gives, s nodes having been gone through: "all are read" first (fs.rs, `read_extents_at`)
 unfoldable pub readOver : List ℕ → Search → ℕ → ℕ → ℕ → ℕ → Counted (List ℕ)
-readOver b q size off len s = onto (listOf (extentAt (q .reader) b) (scanOf b q s)) λ es t. after t (readAt (diskOf (q .reader) b) size es off len)
+readOver b q size off len s = onto (listOf (extentAt (q .keys .reader) b) (scanOf b q s)) λ es t. after t (readAt (diskOf (q .keys .reader) b) size es off len)
 
 -- where a read of n bytes from off on stops: nothing is looked at where off is at or past the size
 abbrev pub stopOf : ℕ → ℕ → ℕ → ℕ

@@ -58,17 +58,18 @@ pub fn lay_at(image: &[u8], reader: Reader, off: u64, out: &mut [u8], e: Extent)
 
 // The bytes of the file from off on: zeros, and over them the extents from an entry of a step on, which were decided upon.
 pub fn fill(image: &[u8], q: Search, off: u64, out: &mut [u8], kept: Step, from: u32)
-    requires { ⌜ (off + length (now out) < 2 ^ 64) × Ready (diskOf (q .reader) (now image)) off (off + length (now out)) (readable (extentAt (q .reader) (now image)) (runAt (now image) q kept from)) ⌝ }
-    ensures { λ _. ⌜ now (out .exit) ≡ lay (diskOf (q .reader) (now (image .entry))) off (readable (extentAt (q .reader) (now (image .entry))) (runAt (now (image .entry)) q kept from)) (replicate (length (now (out .entry))) 0) ⌝ }
+    requires { ⌜ (off + length (now out) < 2 ^ 64) × Ready (diskOf (q .keys .reader) (now image)) off (off + length (now out)) (readable (extentAt (q .keys .reader) (now image)) (runAt (now image) q kept from)) ⌝ }
+    ensures { λ _. ⌜ now (out .exit) ≡ lay (diskOf (q .keys .reader) (now (image .entry))) off (readable (extentAt (q .keys .reader) (now (image .entry))) (runAt (now (image .entry)) q kept from)) (replicate (length (now (out .entry))) 0) ⌝ }
 {
     clear(out);
-    let reader = q.reader;
+    let keys = q.keys;
+    let reader = keys.reader;
     let stop = off + out.len() as u64;
     let mut s = kept;
     let mut i = from;
     loop {
         let at = s.reached;
-        match extent_in(image, q, at, i) {
+        match extent_in(image, keys, at, i) {
             ExtentIn::Over => return,
             ExtentIn::No(_) => return,
             ExtentIn::Passed => {

@@ -22,30 +22,30 @@ use Rattle.demand.specs.Trace.{Trace}
 use Rattle.forms.specs.Inner.{run, attributeTrace, attributeTraces}
 use Rattle.forms.proofs.Running.{run-then, stays-no}
 
-module _ (room : ℕ) (b : List ℕ) (v : Volume) (q : Search) (s : Step) (i : ℕ) (o w : Output) (inv : run room (attributeTraces b v (readable (attributeAt (q .reader) b) (runAt b q s i))) o ≡ w)
-    (x : Seen Attribute) (t : x ≡ seenIn (attributeAt (q .reader) b) (inStep b q (s .reached) i)) where
-  none-left : readable (attributeAt (q .reader) b) (runAt b q s i) ≡ [] → o ≡ w
+module _ (room : ℕ) (b : List ℕ) (v : Volume) (q : Search) (s : Step) (i : ℕ) (o w : Output) (inv : run room (attributeTraces b v (readable (attributeAt (q .keys .reader) b) (runAt b q s i))) o ≡ w)
+    (x : Seen Attribute) (t : x ≡ seenIn (attributeAt (q .keys .reader) b) (inStep b q (s .reached) i)) where
+  none-left : readable (attributeAt (q .keys .reader) b) (runAt b q s i) ≡ [] → o ≡ w
   unfolding attributeTraces run puts
   none-left e = ap (λ (l : List Attribute). run room (attributeTraces b v l) o) (sym e) ∙ inv
 
   pub attributes-over : x ≡ over → o ≡ w
-  attributes-over e = none-left (readable-over (attributeAt (q .reader) b) b q s i x t e)
+  attributes-over e = none-left (readable-over (attributeAt (q .keys .reader) b) b q s i x t e)
 
   pub attributes-no : (z : Refusal) → x ≡ refusal z → o ≡ w
-  attributes-no z e = none-left (readable-no (attributeAt (q .reader) b) b q s i x t z e)
+  attributes-no z e = none-left (readable-no (attributeAt (q .keys .reader) b) b q s i x t z e)
 
-  pub attributes-passed : (n : Step) → x ≡ passed → Begins b q n (left b q (s .path) (s .level) (s .nodes)) → run room (attributeTraces b v (readable (attributeAt (q .reader) b) (runAt b q n (n .from)))) o ≡ w
-  attributes-passed n e h = rw (readable-passed (attributeAt (q .reader) b) b q s i x t n e h) inv
+  pub attributes-passed : (n : Step) → x ≡ passed → Begins b q n (left b q (s .path) (s .level) (s .nodes)) → run room (attributeTraces b v (readable (attributeAt (q .keys .reader) b) (runAt b q n (n .from)))) o ≡ w
+  attributes-passed n e h = rw (readable-passed (attributeAt (q .keys .reader) b) b q s i x t n e h) inv
 
-  pub attributes-next : (a : Attribute) (c : ℕ) (p : Output) → x ≡ element a c → p ≡ run room (attributeTrace b v a) o → run room (attributeTraces b v (readable (attributeAt (q .reader) b) (runAt b q s c))) p ≡ w
+  pub attributes-next : (a : Attribute) (c : ℕ) (p : Output) → x ≡ element a c → p ≡ run room (attributeTrace b v a) o → run room (attributeTraces b v (readable (attributeAt (q .keys .reader) b) (runAt b q s c))) p ≡ w
   unfolding attributeTraces
   attributes-next a c p e g =
-      ap (run room (attributeTraces b v (readable (attributeAt (q .reader) b) (runAt b q s c)))) g
-      ∙ sym (run-then room (attributeTrace b v a) (attributeTraces b v (readable (attributeAt (q .reader) b) (runAt b q s c))) o)
-      ∙ ap (λ (l : List Attribute). run room (attributeTraces b v l) o) (sym (readable-at (attributeAt (q .reader) b) b q s i x t a c e)) ∙ inv
+      ap (run room (attributeTraces b v (readable (attributeAt (q .keys .reader) b) (runAt b q s c)))) g
+      ∙ sym (run-then room (attributeTrace b v a) (attributeTraces b v (readable (attributeAt (q .keys .reader) b) (runAt b q s c))) o)
+      ∙ ap (λ (l : List Attribute). run room (attributeTraces b v l) o) (sym (readable-at (attributeAt (q .keys .reader) b) b q s i x t a c e)) ∙ inv
 
 pub attributes-done : (room : ℕ) (b : List ℕ) (v : Volume) (id : ℕ) (q : Search) (s : Step) (o z : Output) → q ≡ searchOf v id 4
-    → z ≡ run room (attributeTraces b v (readable (attributeAt (q .reader) b) (runAt b q s (s .from)))) o → z ≡ run room (attributeTraces b v (readable (attributeAt (v .reader) b) (runAt b (searchOf v id 4) s (s .from)))) o
+    → z ≡ run room (attributeTraces b v (readable (attributeAt (q .keys .reader) b) (runAt b q s (s .from)))) o → z ≡ run room (attributeTraces b v (readable (attributeAt (v .reader) b) (runAt b (searchOf v id 4) s (s .from)))) o
 attributes-done room b v id q s o z e h = rw e at h
 
 pub attributes-stopped : (room : ℕ) (t : Trace) (p : Position) (b : List ℕ) (e : Refusal) (w : Output) → run room t (outputOf p b) ≡ w → p ≡ No e → refused e ≡ w

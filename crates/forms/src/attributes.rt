@@ -99,6 +99,7 @@ pub fn put_attributes(
     ensures { λ r. ⌜ outputOf r (now (out .exit)) ≡ run room (attributeTraces (now (image .entry)) v (readable (attributeAt (v .reader) (now (image .entry))) (runAt (now (image .entry)) (searchOf v id 4) start (start .from)))) (outputOf p (now (out .entry))) ⌝ }
 {
     let q = search(v, id, 4);
+    let keys = q.keys;
     let mut o = p;
     let mut s = start;
     let mut i = s.from;
@@ -107,7 +108,7 @@ pub fn put_attributes(
             return Position::No(w);
         }
         let at = s.reached;
-        match attribute_in(image, q, at, i) {
+        match attribute_in(image, keys, at, i) {
             AttributeIn::Over => return o,
             AttributeIn::No(_) => return o,
             AttributeIn::Passed => {

@@ -97,7 +97,7 @@ module _ (r : Reader) (b name : List ℕ) (g : Place → Answer Attribute) where
     name-next z a c e k = list-at g b q s i x t (soughtName r b name o) whole inv (soughtName r b name z) a c e (sought-next r b name o z a k)
 
 pub name-done : (b : List ℕ) (v : Volume) (id : ℕ) (name : List ℕ) (s n : ℕ) (q : Search) (x : AttributeAt) (f : AttributeFound) → q ≡ searchOf v id 4 → f ≡ record { attribute = x; nodes = n }
-    → after n (attributePlaced x) ≡ (onto (listOf (attributeAt (q .reader) b) (scanOf b q s)) λ xs t. after t (got (named (v .reader) b name xs))) → attributeFound f ≡ attributeNamed b v id name s
+    → after n (attributePlaced x) ≡ (onto (listOf (attributeAt (q .keys .reader) b) (scanOf b q s)) λ xs t. after t (got (named (v .reader) b name xs))) → attributeFound f ≡ attributeNamed b v id name s
 unfolding attributeNamed attributesOf
 name-done b v id name s n q x f e h g = rw h (rw e at g)
 

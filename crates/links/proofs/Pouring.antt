@@ -57,7 +57,7 @@ pub stream-start : (raw : Bool) (room : ℕ) (f : Feed) (o : List ℕ) (g : Plac
 stream-start raw room f o g d size r n e = record { as-one = λ xs. rw e }
 
 module _ (raw : Bool) (room : ℕ) (h f : Feed) (o u y : List ℕ) (g : Place → Answer Extent) (d : Disk) (size pos : ℕ) (b : List ℕ) (q : Search) (s : Step) (i : ℕ)
-    (x : Seen Extent) (t : x ≡ seenIn g (inStep b q (s .reached) i)) (inv : Feeds raw room h o (runBytes g d size pos (runAt b q s i)) f u y) where
+    (inv : Feeds raw room h o (runBytes g d size pos (runAt b q s i)) f u y) (x : Seen Extent) (t : x ≡ seenIn g (inStep b q (s .reached) i)) where
   pub stream-end : (n : ℕ) (r : Feed) (c xs : List ℕ) → x ≡ over → n ≡ size - pos → ((ys : List ℕ) → fedAs raw room r c ys ≡ fedAs raw room h o (replicate n 0 ++ ys)) → fedAs raw room r c xs ≡ fedAs raw room f u (y ++ xs)
   stream-end n r c xs e k l = l xs ∙ rw k (rw (bytes-over g d size pos b q s i x t e) at (inv .as-one xs))
 
@@ -77,7 +77,7 @@ module _ (raw : Bool) (room : ℕ) (h f : Feed) (o u y : List ℕ) (g : Place �
   }
 
 pub stream-done : (raw : Bool) (room : ℕ) (f r : Feed) (i c xs : List ℕ) (b : List ℕ) (v : Volume) (object size s : ℕ) (q : Search) → q ≡ searchOf v object 8
-    → fedAs raw room r c xs ≡ fedAs raw room f i (runBytes (extentAt (q .reader) b) (diskOf (v .reader) b) size 0 (scanOf b q s) ++ xs) → fedAs raw room r c xs ≡ fedAs raw room f i (streamBytes b v object size s ++ xs)
+    → fedAs raw room r c xs ≡ fedAs raw room f i (runBytes (extentAt (q .keys .reader) b) (diskOf (v .reader) b) size 0 (scanOf b q s) ++ xs) → fedAs raw room r c xs ≡ fedAs raw room f i (streamBytes b v object size s ++ xs)
 unfolding streamBytes
 stream-done raw room f r i c xs b v object size s q e h = rw e at h
 

@@ -58,13 +58,14 @@ pub fn attribute_named(image: &[u8], v: Volume, id: u64, name: &[u8], nodes: u64
     ensures { λ r. ⌜ attributeFound r ≡ attributeNamed (now (image .entry)) v id (now (name .entry)) nodes ⌝ }
 {
     let q = search(v, id, 4);
+    let keys = q.keys;
     let reader = v.reader;
     let mut kept = AttributeAt::Nothing;
     let mut s = first(image, q, nodes);
     let mut i = s.from;
     loop {
         let at = s.reached;
-        match attribute_in(image, q, at, i) {
+        match attribute_in(image, keys, at, i) {
             AttributeIn::Over => return found(kept, s.nodes),
             AttributeIn::No(e) => return found(AttributeAt::No(e), s.nodes),
             AttributeIn::Passed => {

@@ -85,6 +85,7 @@ pub fn push_stream(
     ensures { λ r. ⌜ ((xs : List ℕ) → fedAs raw room r (now (out .exit)) xs ≡ fedAs raw room f (now (out .entry)) (streamBytes (now (image .entry)) v object size nodes ++ xs)) ⌝ }
 {
     let q = search(v, object, 8);
+    let keys = q.keys;
     let reader = v.reader;
     let mut g = f;
     let mut pos: u64 = 0;
@@ -92,7 +93,7 @@ pub fn push_stream(
     let mut i = s.from;
     loop {
         let at = s.reached;
-        match extent_in(image, q, at, i) {
+        match extent_in(image, keys, at, i) {
             ExtentIn::Over => return feed_zeros(out, room, raw, g, less(size, pos)),
             ExtentIn::No(_) => return g,
             ExtentIn::Passed => {

@@ -45,12 +45,13 @@ pub fn put_node(
         InodeRead::No(w) => refuse(p, w),
         InodeRead::Got(i) => {
             let q = search(v, id, 9);
+            let keys = q.keys;
             let mut s = list_on(image, v, id, 9, way, 0);
             let mut o = put_head(out, room, p, image, v, i, way, s);
             let mut k = s.from;
             loop {
                 let at = s.reached;
-                match entry_in(image, q, at, k) {
+                match entry_in(image, keys, at, k) {
                     EntryIn::Over => return put_all(out, room, o, b")\n"),
                     EntryIn::No(_) => return put_all(out, room, o, b")\n"),
                     EntryIn::Passed => {

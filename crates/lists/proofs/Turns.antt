@@ -90,7 +90,7 @@ module _ (s : EntryAt) where
   entry-none w q = rw q
 
 pub entry-done : (b : List ℕ) (v : Volume) (id place n : ℕ) (q : Search) (t : Step) (x : EntryAt) (r : EntryFound) → q ≡ searchOf v id 9 → r ≡ record { entry = x; nodes = n }
-    → after n (entryPlaced x) ≡ placed place (listOf (entryAt (q .reader) b) (runAt b q t (t .from))) → entryFound r ≡ placed place (listOf (entryAt (v .reader) b) (runAt b (searchOf v id 9) t (t .from)))
+    → after n (entryPlaced x) ≡ placed place (listOf (entryAt (q .keys .reader) b) (runAt b q t (t .from))) → entryFound r ≡ placed place (listOf (entryAt (v .reader) b) (runAt b (searchOf v id 9) t (t .from)))
 entry-done b v id place n q t x r e h g = rw h (rw e at g)
 
 pub entry-whole : (b : List ℕ) (v : Volume) (id place n : ℕ) (q : Search) (t : Step) (r : EntryFound) → q ≡ searchOf v id 9 → Begins b q t (scanOf b q n)
@@ -129,7 +129,7 @@ module _ (s : AttributeAt) where
   attribute-none w q = rw q
 
 pub attribute-done : (b : List ℕ) (v : Volume) (id place n : ℕ) (q : Search) (t : Step) (x : AttributeAt) (r : AttributeFound) → q ≡ searchOf v id 4 → r ≡ record { attribute = x; nodes = n }
-    → after n (attributePlaced x) ≡ placed place (listOf (attributeAt (q .reader) b) (runAt b q t (t .from))) → attributeFound r ≡ placed place (listOf (attributeAt (v .reader) b) (runAt b (searchOf v id 4) t (t .from)))
+    → after n (attributePlaced x) ≡ placed place (listOf (attributeAt (q .keys .reader) b) (runAt b q t (t .from))) → attributeFound r ≡ placed place (listOf (attributeAt (v .reader) b) (runAt b (searchOf v id 4) t (t .from)))
 attribute-done b v id place n q t x r e h g = rw h (rw e at g)
 
 pub attribute-whole : (b : List ℕ) (v : Volume) (id place n : ℕ) (q : Search) (t : Step) (r : AttributeFound) → q ≡ searchOf v id 4 → Begins b q t (scanOf b q n)
@@ -168,7 +168,7 @@ module _ (s : ExtentAt) where
   extent-none w q = rw q
 
 pub extent-done : (b : List ℕ) (v : Volume) (id place n : ℕ) (q : Search) (t : Step) (x : ExtentAt) (r : ExtentFound) → q ≡ searchOf v id 8 → r ≡ record { extent = x; nodes = n }
-    → after n (extentPlaced x) ≡ placed place (listOf (extentAt (q .reader) b) (runAt b q t (t .from))) → extentFound r ≡ placed place (listOf (extentAt (v .reader) b) (runAt b (searchOf v id 8) t (t .from)))
+    → after n (extentPlaced x) ≡ placed place (listOf (extentAt (q .keys .reader) b) (runAt b q t (t .from))) → extentFound r ≡ placed place (listOf (extentAt (v .reader) b) (runAt b (searchOf v id 8) t (t .from)))
 extent-done b v id place n q t x r e h g = rw h (rw e at g)
 
 pub extent-whole : (b : List ℕ) (v : Volume) (id place n : ℕ) (q : Search) (t : Step) (r : ExtentFound) → q ≡ searchOf v id 8 → Begins b q t (scanOf b q n)

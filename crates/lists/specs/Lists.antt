@@ -23,7 +23,7 @@ use Rattle.inode_record.specs.declared.inode.Inode.{Inode}
 
 -- the records of an id and a kind in a volume's tree
 abbrev pub searchOf : Volume → ℕ → ℕ → Search
-searchOf v id kind = record { reader = v .reader; root = v .root; info = v .info; resolve = Mapped (v .map); id = id; kind = kind }
+searchOf v id kind = record { keys = record { reader = v .reader; info = v .info; id = id; kind = kind }; root = v .root; resolve = Mapped (v .map) }
 
 -- all records of a run, each read by f: record after record, and the first fault counts
 unfoldable pub listOf : {A : Type 0} → (Place → Answer A) → Run → Counted (List A)

@@ -53,13 +53,14 @@ pub fn attribute_from(image: &[u8], v: Volume, id: u64, place: u64, start: Step)
     ensures { λ r. ⌜ attributeFound r ≡ placed place (listOf (attributeAt (v .reader) (now (image .entry))) (runAt (now (image .entry)) (searchOf v id 4) start (start .from))) ⌝ }
 {
     let q = search(v, id, 4);
+    let keys = q.keys;
     let mut kept = AttributeAt::Nothing;
     let mut left = place;
     let mut s = start;
     let mut i = s.from;
     loop {
         let at = s.reached;
-        match attribute_in(image, q, at, i) {
+        match attribute_in(image, keys, at, i) {
             AttributeIn::Over => return found(kept, s.nodes),
             AttributeIn::No(e) => return found(AttributeAt::No(e), s.nodes),
             AttributeIn::Passed => {

@@ -53,13 +53,14 @@ pub fn entry_from(image: &[u8], v: Volume, id: u64, place: u64, start: Step) -> 
     ensures { λ r. ⌜ entryFound r ≡ placed place (listOf (entryAt (v .reader) (now (image .entry))) (runAt (now (image .entry)) (searchOf v id 9) start (start .from))) ⌝ }
 {
     let q = search(v, id, 9);
+    let keys = q.keys;
     let mut kept = EntryAt::Nothing;
     let mut left = place;
     let mut s = start;
     let mut i = s.from;
     loop {
         let at = s.reached;
-        match entry_in(image, q, at, i) {
+        match entry_in(image, keys, at, i) {
             EntryIn::Over => return found(kept, s.nodes),
             EntryIn::No(e) => return found(EntryAt::No(e), s.nodes),
             EntryIn::Passed => {

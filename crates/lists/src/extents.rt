@@ -54,13 +54,14 @@ pub fn extent_from(image: &[u8], v: Volume, id: u64, place: u64, start: Step) ->
     ensures { λ r. ⌜ extentFound r ≡ placed place (listOf (extentAt (v .reader) (now (image .entry))) (runAt (now (image .entry)) (searchOf v id 8) start (start .from))) ⌝ }
 {
     let q = search(v, id, 8);
+    let keys = q.keys;
     let mut kept = ExtentAt::Nothing;
     let mut left = place;
     let mut s = start;
     let mut i = s.from;
     loop {
         let at = s.reached;
-        match extent_in(image, q, at, i) {
+        match extent_in(image, keys, at, i) {
             ExtentIn::Over => return found(kept, s.nodes),
             ExtentIn::No(e) => return found(ExtentAt::No(e), s.nodes),
             ExtentIn::Passed => {

@@ -1,6 +1,6 @@
 // An element of a list, read from the next record of a leaf.
 use btree::InLeaf;
-use btree::Search;
+use btree::Keys;
 use cursor::Reached;
 use cursor::in_leaf;
 use error::Refusal;
@@ -11,7 +11,7 @@ use records::EntryRead;
 use records::Extent;
 use records::ExtentRead;
 ghost use mathlib.Core.Path.{_≡_};
-ghost use Rattle.cursor.specs.Left.{inStep};
+ghost use Rattle.cursor.specs.Left.{inReached};
 ghost use Rattle.records.specs.Directory.{entryAt};
 ghost use Rattle.records.specs.Attribute.{attributeAt};
 ghost use Rattle.records.specs.Extent.{extentAt};
@@ -39,11 +39,11 @@ pub enum ExtentIn {
     No(Refusal),
 }
 
-pub fn entry_in(image: &[u8], q: Search, reached: Reached, from: u32) -> EntryIn
-    ensures { λ r. ⌜ entrySeen r ≡ seenIn (entryAt (q .reader) (now (image .entry))) (inStep (now (image .entry)) q reached from) ⌝ }
+pub fn entry_in(image: &[u8], k: Keys, reached: Reached, from: u32) -> EntryIn
+    ensures { λ r. ⌜ entrySeen r ≡ seenIn (entryAt (k .reader) (now (image .entry))) (inReached (now (image .entry)) k reached from) ⌝ }
 {
-    match in_leaf(image, q, reached, from) {
-        InLeaf::At(p, after) => match records::entry_at(q.reader, image, p) {
+    match in_leaf(image, k, reached, from) {
+        InLeaf::At(p, after) => match records::entry_at(k.reader, image, p) {
             EntryRead::Got(x) => EntryIn::At(x, after),
             EntryRead::No(e) => EntryIn::No(e),
         },
@@ -53,11 +53,11 @@ pub fn entry_in(image: &[u8], q: Search, reached: Reached, from: u32) -> EntryIn
     }
 }
 
-pub fn attribute_in(image: &[u8], q: Search, reached: Reached, from: u32) -> AttributeIn
-    ensures { λ r. ⌜ attributeSeen r ≡ seenIn (attributeAt (q .reader) (now (image .entry))) (inStep (now (image .entry)) q reached from) ⌝ }
+pub fn attribute_in(image: &[u8], k: Keys, reached: Reached, from: u32) -> AttributeIn
+    ensures { λ r. ⌜ attributeSeen r ≡ seenIn (attributeAt (k .reader) (now (image .entry))) (inReached (now (image .entry)) k reached from) ⌝ }
 {
-    match in_leaf(image, q, reached, from) {
-        InLeaf::At(p, after) => match records::attribute_at(q.reader, image, p) {
+    match in_leaf(image, k, reached, from) {
+        InLeaf::At(p, after) => match records::attribute_at(k.reader, image, p) {
             AttributeRead::Got(x) => AttributeIn::At(x, after),
             AttributeRead::No(e) => AttributeIn::No(e),
         },
@@ -67,11 +67,11 @@ pub fn attribute_in(image: &[u8], q: Search, reached: Reached, from: u32) -> Att
     }
 }
 
-pub fn extent_in(image: &[u8], q: Search, reached: Reached, from: u32) -> ExtentIn
-    ensures { λ r. ⌜ extentSeen r ≡ seenIn (extentAt (q .reader) (now (image .entry))) (inStep (now (image .entry)) q reached from) ⌝ }
+pub fn extent_in(image: &[u8], k: Keys, reached: Reached, from: u32) -> ExtentIn
+    ensures { λ r. ⌜ extentSeen r ≡ seenIn (extentAt (k .reader) (now (image .entry))) (inReached (now (image .entry)) k reached from) ⌝ }
 {
-    match in_leaf(image, q, reached, from) {
-        InLeaf::At(p, after) => match records::extent_at(q.reader, image, p) {
+    match in_leaf(image, k, reached, from) {
+        InLeaf::At(p, after) => match records::extent_at(k.reader, image, p) {
             ExtentRead::Got(x) => ExtentIn::At(x, after),
             ExtentRead::No(e) => ExtentIn::No(e),
         },

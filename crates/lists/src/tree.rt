@@ -1,4 +1,5 @@
 // The records of an id and a kind in a volume's tree (fs.rs, `records`).
+use btree::Keys;
 use btree::Search;
 use lookup::Resolve;
 use volume::Volume;
@@ -13,13 +14,16 @@ pub fn search(v: Volume, id: u64, kind: u8) -> Search
     let root = v.root;
     let info = v.info;
     let map = v.map;
-    Search {
+    let keys = Keys {
         reader: reader,
-        root: root,
         info: info,
-        resolve: Resolve::Mapped(map),
         id: id,
         kind: kind,
+    };
+    Search {
+        keys: keys,
+        root: root,
+        resolve: Resolve::Mapped(map),
     }
 }
 

@@ -34,7 +34,7 @@ pub fn inode_on(image: &[u8], v: Volume, id: u64, w: Way, nodes: u64) -> InodeFo
     let q = search(v, id, 3);
     let s = begin(image, q, w, nodes);
     let reached = s.reached;
-    match in_leaf(image, q, reached, s.from) {
+    match in_leaf(image, q.keys, reached, s.from) {
         InLeaf::At(p, _) => InodeFound {
             inode: inode_at(reader, image, p, id),
             nodes: s.nodes,

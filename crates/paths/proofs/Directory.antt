@@ -58,7 +58,7 @@ module _ (rule : NameRule) (rd : Reader) (b : List ℕ) (p : List ℕ) where
           list-at g b q s i x t (choosing c) whole inv (choosing z) e a h (λ es. rw m (chosen-next rule (nameRead rd b) p c e es))
 
 pub entries-done : (b : List ℕ) (v : Volume) (id s n : ℕ) (p : List ℕ) (rule : NameRule) (q : Search) (x : EntryRead) (r : EntryChosen) → q ≡ searchOf v id 9 → rule ≡ ruleOf v → r ≡ record { entry = x; nodes = n }
-    → after n (entryTold x) ≡ foundIn rule (v .reader) b p (entryAt (q .reader) b) (scanOf b q s) → entryChosen r ≡ entryIn b v id p s
+    → after n (entryTold x) ≡ foundIn rule (v .reader) b p (entryAt (q .keys .reader) b) (scanOf b q s) → entryChosen r ≡ entryIn b v id p s
 unfolding entryIn entriesOf foundIn
 entries-done b v id s n p rule q x r e f h g = rw h (rw (e, f) at g)
 

@@ -44,6 +44,7 @@ fn entry_named(image: &[u8], v: Volume, id: u64, part: &[u8], nodes: u64) -> Ent
     ensures { λ r. ⌜ entryChosen r ≡ entryIn (now (image .entry)) v id (now (part .entry)) nodes ⌝ }
 {
     let q = search(v, id, 9);
+    let keys = q.keys;
     let reader = v.reader;
     let rule = name_rule(v);
     let mut choice = none_yet(rule, part);
@@ -51,7 +52,7 @@ fn entry_named(image: &[u8], v: Volume, id: u64, part: &[u8], nodes: u64) -> Ent
     let mut i = s.from;
     loop {
         let at = s.reached;
-        match entry_in(image, q, at, i) {
+        match entry_in(image, keys, at, i) {
             EntryIn::Over => return chosen(settle(choice), s.nodes),
             EntryIn::No(e) => return chosen(EntryRead::No(e), s.nodes),
             EntryIn::Passed => {

@@ -162,7 +162,7 @@ unfolding settledOf settledBy streamOf
 settled-is b v object size s = settled-from (diskOf (v .reader) b) size (extentsOf b v object s .nodes) (extentsOf b v object s .answer)
 
 pub settle-done : (b : List ℕ) (v : Volume) (object size s n : ℕ) (q : Search) (x : Ruling) (r : Settled) → q ≡ searchOf v object 8 → r ≡ record { ruling = x; nodes = n }
-    → after n (ruled x) ≡ (onto (listOf (extentAt (q .reader) b) (scanOf b q s)) λ es t. after t (settle (diskOf (v .reader) b) size 0 es)) → settledTold r ≡ settledOf b v object size s
+    → after n (ruled x) ≡ (onto (listOf (extentAt (q .keys .reader) b) (scanOf b q s)) λ es t. after t (settle (diskOf (v .reader) b) size 0 es)) → settledTold r ≡ settledOf b v object size s
 unfolding settledBy extentsOf
 settle-done b v object size s n q x r e h g = rw h (rw e at g) ∙ sym (settled-is b v object size s)
 

@@ -130,7 +130,7 @@ module _ (g : Place → Answer Extent) (d : Disk) (size pos : ℕ) (b : List ℕ
     pour-passed n e h = rw (bytes-passed n e h) inv
 
 pub pour-done : (room : ℕ) (b : List ℕ) (v : Volume) (object size : ℕ) (q : Search) (s : Step) (o z : Output) → q ≡ searchOf v object 8
-    → z ≡ puts room (pairs (runBytes (extentAt (q .reader) b) (diskOf (v .reader) b) size 0 (runAt b q s (s .from))) []) o
+    → z ≡ puts room (pairs (runBytes (extentAt (q .keys .reader) b) (diskOf (v .reader) b) size 0 (runAt b q s (s .from))) []) o
     → z ≡ puts room (pairs (runBytes (extentAt (v .reader) b) (diskOf (v .reader) b) size 0 (runAt b (searchOf v object 8) s (s .from))) []) o
 pour-done room b v object size q s o z e h = rw e at h
 

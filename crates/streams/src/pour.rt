@@ -132,6 +132,7 @@ pub fn put_stream_from(
     ensures { λ r. ⌜ outputOf r (now (out .exit)) ≡ puts room (pairs (runBytes (extentAt (v .reader) (now (image .entry))) (diskOf (v .reader) (now (image .entry))) size 0 (runAt (now (image .entry)) (searchOf v object 8) start (start .from))) []) (outputOf p (now (out .entry))) ⌝ }
 {
     let q = search(v, object, 8);
+    let keys = q.keys;
     let reader = v.reader;
     let mut o = p;
     let mut pos: u64 = 0;
@@ -142,7 +143,7 @@ pub fn put_stream_from(
             return Position::No(w);
         }
         let at = s.reached;
-        match extent_in(image, q, at, i) {
+        match extent_in(image, keys, at, i) {
             ExtentIn::Over => return put_zeros(out, room, o, less(size, pos)),
             ExtentIn::No(_) => return o,
             ExtentIn::Passed => {

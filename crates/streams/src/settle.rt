@@ -53,6 +53,7 @@ pub fn settle_stream(image: &[u8], v: Volume, object: u64, size: u64, nodes: u64
     ensures { λ r. ⌜ settledTold r ≡ settledOf (now (image .entry)) v object size nodes ⌝ }
 {
     let q = search(v, object, 8);
+    let keys = q.keys;
     let reader = v.reader;
     let mut ruling = Ruling::Fine;
     let mut pos: u64 = 0;
@@ -60,7 +61,7 @@ pub fn settle_stream(image: &[u8], v: Volume, object: u64, size: u64, nodes: u64
     let mut i = s.from;
     loop {
         let at = s.reached;
-        match extent_in(image, q, at, i) {
+        match extent_in(image, keys, at, i) {
             ExtentIn::Over => return with_nodes(ruling, s.nodes),
             ExtentIn::No(w) => return with_nodes(Ruling::No(w), s.nodes),
             ExtentIn::Passed => {

@@ -12,12 +12,12 @@ use Rattle.contents.proofs.apart.Statement.{statement}
 use Rattle.contents.proofs.apart.Tie as tie
 
 abbrev Inv-loop : tie.InvT-loop
-Inv-loop image q ruling₀ last₀ s₀ i₀ ruling last s i =
-    reading (extentAt (q .reader) image) (ordering (ruled ruling) last) (runAt image q s i)
-    ≡ (onto (listOf (extentAt (q .reader) image) (runAt image q s₀ i₀)) λ es t. after t (apart es))
+Inv-loop image q keys ruling₀ last₀ s₀ i₀ ruling last s i =
+    reading (extentAt (q .keys .reader) image) (ordering (ruled ruling) last) (runAt image q s i)
+    ≡ (onto (listOf (extentAt (q .keys .reader) image) (runAt image q s₀ i₀)) λ es t. after t (apart es))
 
 abbrev μ-loop : tie.MeasureT-loop
-μ-loop image q ruling₀ last₀ s₀ i₀ ruling last s i = rest image q s i
+μ-loop image q keys ruling₀ last₀ s₀ i₀ ruling last s i = rest image q s i
 
 pub apart-spec : {M : Type 1} → statement M
 apart-spec =

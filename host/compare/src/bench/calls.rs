@@ -14,7 +14,7 @@ use sticks::{make, Plan};
 use crate::bench::{line, Timed};
 use crate::calls::call::Call;
 use crate::calls::check::Subject;
-use crate::calls::expected::{of_image, Answer};
+use crate::calls::expected::{self, of_image, Answer};
 use crate::calls::Port;
 use crate::opening::answer::container;
 
@@ -66,15 +66,19 @@ fn timed(
     line(what, &mut fresh, Some(&mut warm), ours)
 }
 
-fn lookup(width: u64, port: Option<Port>) -> String {
-    let path = "next/next/last";
+/// With regard to case, or without and in another case than the names'.
+fn lookup(width: u64, sensitive: bool, port: Option<Port>) -> String {
+    let (path, how) = if sensitive { ("next/next/last", "sensitive") } else { ("Next/NEXT/lasT", "insensitive") };
     let by_oracle = |v: &Volume, _: &Call| drop(black_box(v.lookup_path(path).expect("an inode")));
-    let what = format!("lookup through three directories of {width:>6}");
+    let what = format!("lookup through three directories of {width:>6}, {how:11}");
     let call = Call::Lookup { path: path.into() };
-    timed(&what, large::directories(width), &[call], &by_oracle, port)
+    let mut contents = large::directories(width);
+    contents.case_insensitive = !sensitive;
+    contents.normalization_insensitive = !sensitive;
+    timed(&what, contents, &[call], &by_oracle, port)
 }
 
-/// Up to the one past the last; the oracle reads the directory once.
+/// Up to the one past the last. The oracle too reads the directory in each call and writes the lines that fit.
 fn entries(width: u64, port: Option<Port>) -> String {
     let contents = large::spread(width, 0);
     let image = Arc::new(make(Plan::with_contents(contents.clone(), 5)).image);
@@ -87,9 +91,8 @@ fn entries(width: u64, port: Option<Port>) -> String {
         calls.push(call);
     }
     let by_oracle = |v: &Volume, call: &Call| {
-        if let Call::Entries { place: 0, .. } = call {
-            black_box(v.read_dir(ROOT).expect("entries"));
-        }
+        let Call::Entries { id, place, length } = call else { unreachable!("entries alone") };
+        black_box(expected::entries(v, *id, *place, *length).is_ok());
     };
     timed(&format!("a directory of {width:>6} entries, in buffers of 1 MiB"), contents, &calls, &by_oracle, port)
 }
@@ -110,7 +113,8 @@ fn read(extents: u64, port: Option<Port>) -> String {
 
 /// Medians in lines of text; without a port, the oracle's alone.
 pub fn run(port: Option<Port>) -> String {
-    let lookups = WIDTHS.into_iter().map(|n| lookup(n, port));
+    let rules = [true, false].into_iter();
+    let lookups = rules.flat_map(|sensitive| WIDTHS.map(|n| lookup(n, sensitive, port)));
     let entries = WIDTHS.into_iter().map(|n| entries(n, port));
     lookups.chain(entries).chain(EXTENTS.into_iter().map(|n| read(n, port))).collect()
 }

@@ -1,10 +1,12 @@
-//! Listings of flat and nested volumes of several sizes. Both sides open the container and the volume for
+//! Listings of flat and nested volumes of several sizes, of a file with data, and of nodes with attributes. Both sides open the container and the volume for
 //! each listing.
 
 use std::hint::black_box;
 use std::sync::Arc;
 
+use sticks::contents::Contents;
 use sticks::plan::large;
+use sticks::random::Random;
 use sticks::{make, Plan};
 
 use crate::bench::{line, Timed};
@@ -16,14 +18,16 @@ const ENTRIES: [u64; 3] = [10, 1000, 100_000];
 /// Below the root: one directory, or as many as can be listed with files in the last.
 const DEPTHS: [(&str, u64); 2] = [("flat", 0), ("nested", 63)];
 const ROOM: usize = 1 << 26;
+const SIZE: u64 = 1 << 20;
+const EXTENTS: [u64; 2] = [1, 1000];
 
 fn by_oracle(image: &Arc<Vec<u8>>) -> Trace {
     let c = container(image).expect("a container");
     walk::with_room(image, &c, 0, ROOM)
 }
 
-fn volume(entries: u64, name: &str, depth: u64, port: Option<Port>) -> String {
-    let image = Arc::new(make(Plan::with_contents(large::spread(entries, depth), 5)).image);
+fn volume(what: &str, contents: Contents, port: Option<Port>) -> String {
+    let image = Arc::new(make(Plan::with_contents(contents, 5)).image);
     let want = by_oracle(&image);
     let text = want.text;
     assert!(want.end == End::Whole, "{:?}", want.end);
@@ -35,11 +39,19 @@ fn volume(entries: u64, name: &str, depth: u64, port: Option<Port>) -> String {
         black_box(port.map(|p| p(black_box(&image), 0, &mut buffer)));
     };
     let ours: Option<Timed> = port.is_some().then_some(&mut ours);
-    line(&format!("listing of {entries:>6} entries, {name:6}"), &mut oracle, None, ours)
+    line(&format!("listing of {what}"), &mut oracle, None, ours)
+}
+
+fn file(extents: u64, port: Option<Port>) -> String {
+    let contents = large::file(SIZE, extents, 4096, &mut Random::new(7));
+    volume(&format!("a file of 1 MiB in {extents:>4} extents"), contents, port)
 }
 
 /// Medians in lines of text; without a port, the oracle's alone.
 pub fn run(port: Option<Port>) -> String {
     let volumes = DEPTHS.into_iter().flat_map(|(name, depth)| ENTRIES.map(|n| (n, name, depth)));
-    volumes.map(|(n, name, depth)| volume(n, name, depth, port)).collect()
+    let spread =
+        volumes.map(|(n, name, depth)| volume(&format!("{n:>6} entries, {name:6}"), large::spread(n, depth), port));
+    let attributed = volume("  1000 nodes with attributes", large::attributed(1000), port);
+    spread.chain(EXTENTS.into_iter().map(|n| file(n, port))).chain([attributed]).collect()
 }

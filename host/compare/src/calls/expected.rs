@@ -59,7 +59,7 @@ impl From<Error> for Stop {
     }
 }
 
-type Told = Result<(Vec<u8>, Kind), Stop>;
+pub type Told = Result<(Vec<u8>, Kind), Stop>;
 
 impl From<Told> for Expected {
     fn from(told: Told) -> Expected {
@@ -166,7 +166,7 @@ fn entry(v: &Volume, id: u64, place: u64) -> Told {
 }
 
 /// As many whole lines as fit; 6 where there is one and it does not fit.
-fn entries(v: &Volume, id: u64, place: u64, room: usize) -> Told {
+pub fn entries(v: &Volume, id: u64, place: u64, room: usize) -> Told {
     let list = v.read_dir(id)?;
     let rest = usize::try_from(place).ok().and_then(|i| list.get(i..)).unwrap_or_default();
     let mut text = String::new();

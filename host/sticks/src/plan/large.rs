@@ -1,6 +1,8 @@
 //! Volumes for timings and edges: wide directories, deep ones, and a file in few or many extents.
 
-use crate::contents::{Contents, Entry, Extent, Field, File, Inode, Key, Source, Stream, STREAM_FIELD};
+use crate::contents::{
+    Attribute, Contents, Data, Entry, Extent, Field, File, Inode, Key, Source, Stream, STREAM_FIELD,
+};
 use crate::random::Random;
 use crate::sums::name_hash;
 use crate::tree::{Shape, Sizes};
@@ -9,6 +11,7 @@ const ROOT: u64 = 2;
 const FILE: u64 = 100;
 const DIRECTORY: u16 = 4;
 const REGULAR: u16 = 8;
+const EMBEDDED: u16 = 2;
 
 /// Full nodes of plain form.
 pub fn dense(sizes: Sizes, r: &mut Random) -> Shape {
@@ -93,6 +96,20 @@ pub fn spread(n: u64, depth: u64) -> Contents {
         f.entries.sort_by_cached_key(|e| (name_hash(&e.name, true), e.name.clone()));
     }
     contents(files, Vec::new())
+}
+
+/// A flat volume of `n` files, each with two attributes that hold their own bytes.
+pub fn attributed(n: u64) -> Contents {
+    let attribute = |name: &str, length: usize| Attribute {
+        name: name.into(),
+        flags: EMBEDDED,
+        data: Data::Embedded((0..length).map(|i| i as u8).collect()),
+    };
+    let mut all = spread(n, 0);
+    for f in all.files.iter_mut().skip(1) {
+        f.attributes = vec![attribute("com.apple.FinderInfo", 32), attribute("watch.round", 60)];
+    }
+    all
 }
 
 /// A file `data` of `size` bytes in as many extents.

@@ -7,11 +7,11 @@ use Rattle.extents.proofs.deciding.judge_from.Statement.{statement}
 use Rattle.extents.proofs.deciding.judge_from.Tie as tie
 
 abbrev Inv-loop : tie.InvT-loop
-Inv-loop image q off stop reader j₀ s₀ i₀ kept₀ from₀ here₀ j s i kept from here =
+Inv-loop image q off stop keys reader j₀ s₀ i₀ kept₀ from₀ here₀ j s i kept from here =
     Going image q off stop (runAt image q s₀ i₀) j (runAt image q s i) (runAt image q (pick here s kept) from)
 
 abbrev μ-loop : tie.MeasureT-loop
-μ-loop image q off stop reader j₀ s₀ i₀ kept₀ from₀ here₀ j s i kept from here = rest image q s i
+μ-loop image q off stop keys reader j₀ s₀ i₀ kept₀ from₀ here₀ j s i kept from here = rest image q s i
 
 pub judge-from-spec : {M : Type 1} → statement M
 judge-from-spec =
@@ -37,6 +37,6 @@ judge-from-spec =
     (λ c. search turns)
     (λ c κs. search turns)
     (λ c. search turns)
-    (λ c. search (turns, judge-near))
+    (λ c. judge-near _ _ _ _ _ _ _ _ _ (c .before .before .before .before .before .before .before .loop .inv) _ (c .before .before .before .before .before .before .extent-in .ensures) _ _ (search turns) _ (c .before .before .one-more .ensures) (search turns))
     (λ c. search turns)
-    (λ c. search (turns, judge-far)))
+    (λ c. judge-far _ _ _ _ _ _ _ _ _ (c .before .before .before .before .before .before .before .loop .inv) _ (c .before .before .before .before .before .before .extent-in .ensures) _ _ (search turns) _ (c .before .before .one-more .ensures) (search turns)))

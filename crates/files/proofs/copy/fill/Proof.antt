@@ -15,11 +15,11 @@ use Rattle.files.proofs.copy.fill.Statement.{statement}
 use Rattle.files.proofs.copy.fill.Tie as tie
 
 abbrev Inv-loop : tie.InvT-loop
-Inv-loop image q off out₀ from reader stop s₀ i₀ out s i =
-    (stop ≡ off + length out₀) × Filling image q off (length out₀) s i out (lay (diskOf (q .reader) image) off (readable (extentAt (q .reader) image) (runAt image q s₀ i₀)) out₀)
+Inv-loop image q off out₀ from keys reader stop s₀ i₀ out s i =
+    (stop ≡ off + length out₀) × Filling image q off (length out₀) s i out (lay (diskOf (q .keys .reader) image) off (readable (extentAt (q .keys .reader) image) (runAt image q s₀ i₀)) out₀)
 
 abbrev μ-loop : tie.MeasureT-loop
-μ-loop image q off out₀ from reader stop s₀ i₀ out s i = rest image q s i
+μ-loop image q off out₀ from keys reader stop s₀ i₀ out s i = rest image q s i
 
 pub fill-spec : {M : Type 1} → statement M
 fill-spec =
@@ -33,17 +33,17 @@ fill-spec =
     (λ c κs. search fills)
     (λ c. search fills)
     (λ c. search fills)
-    (λ c. fill-whole _ _ (length (c .before .before .before .before .before .before .before .before .before .before .before .args .out .now)) _ _ (c .before .before .before .before .before .before .before .clear .ensures) _ (search (needs, seens, fill-over)))
+    (λ c. fill-whole _ _ (length (c .before .before .before .before .before .before .before .before .before .before .before .before .args .out .now)) _ _ (c .before .before .before .before .before .before .before .before .clear .ensures) _ (search (needs, seens, fill-over)))
     (λ c. search fills)
     (λ c. search fills)
-    (λ c. fill-whole _ _ (length (c .before .before .before .before .before .before .before .before .before .before .before .args .out .now)) _ _ (c .before .before .before .before .before .before .before .clear .ensures) _ (search (needs, seens, fill-no)))
+    (λ c. fill-whole _ _ (length (c .before .before .before .before .before .before .before .before .before .before .before .before .args .out .now)) _ _ (c .before .before .before .before .before .before .before .before .clear .ensures) _ (search (needs, seens, fill-no)))
     (λ c. search fills)
     (λ c κs. search fills)
     (λ c. search fills)
     (λ c. search fills)
     (λ c. search fills)
     (λ c. search fills)
-    (λ c. fill-whole _ _ (length (c .before .before .before .before .before .before .before .before .before .before .before .before .before .before .args .out .now)) _ _ (c .before .before .before .before .before .before .before .before .before .before .clear .ensures) _ (search (needs, seens, fill-halt)))
-    (λ c κs. (omega (arith, c .before .before .before .before .before .before .before .before .before .before .before .before .before .before .before .pre .0, c .before .before .before .before .before .before .before .loop .inv .1 .same), fill-allows _ _ _ _ _ _ _ _ (c .before .before .before .before .before .before .before .loop .inv .1) _ (c .before .before .before .before .before .before .extent-in .ensures) _ _ (extent-one _ _ _ (c .before .before .before .before .e .given .1)) (omega (arith, c .before .before .before .before .before .before .before .loop .inv .0, c .before .if1 .left))))
+    (λ c. fill-whole _ _ (length (c .before .before .before .before .before .before .before .before .before .before .before .before .before .before .before .args .out .now)) _ _ (c .before .before .before .before .before .before .before .before .before .before .before .clear .ensures) _ (search (needs, seens, fill-halt)))
+    (λ c κs. (omega (arith, c .before .before .before .before .before .before .before .before .before .before .before .before .before .before .before .before .pre .0, c .before .before .before .before .before .before .before .loop .inv .1 .same), fill-allows _ _ _ _ _ _ _ _ (c .before .before .before .before .before .before .before .loop .inv .1) _ (c .before .before .before .before .before .before .extent-in .ensures) _ _ (extent-one _ _ _ (c .before .before .before .before .e .given .1)) (omega (arith, c .before .before .before .before .before .before .before .loop .inv .0, c .before .if1 .left))))
     (λ c. search fills)
     (λ c. search fills))

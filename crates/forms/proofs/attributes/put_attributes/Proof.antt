@@ -13,11 +13,11 @@ use Rattle.forms.proofs.attributes.put_attributes.Statement.{statement}
 use Rattle.forms.proofs.attributes.put_attributes.Tie as tie
 
 abbrev Inv-loop : tie.InvT-loop
-Inv-loop out₀ room image v id q o₀ s₀ i₀ out o s i =
-    (run room (attributeTraces image v (readable (attributeAt (q .reader) image) (runAt image q s i))) (outputOf o out) ≡ run room (attributeTraces image v (readable (attributeAt (q .reader) image) (runAt image q s₀ i₀))) (outputOf o₀ out₀)) × (length out ≡ length out₀)
+Inv-loop out₀ room image v id q keys o₀ s₀ i₀ out o s i =
+    (run room (attributeTraces image v (readable (attributeAt (q .keys .reader) image) (runAt image q s i))) (outputOf o out) ≡ run room (attributeTraces image v (readable (attributeAt (q .keys .reader) image) (runAt image q s₀ i₀))) (outputOf o₀ out₀)) × (length out ≡ length out₀)
 
 abbrev μ-loop : tie.MeasureT-loop
-μ-loop out₀ room image v id q o₀ s₀ i₀ out o s i = rest image q s i
+μ-loop out₀ room image v id q keys o₀ s₀ i₀ out o s i = rest image q s i
 
 pub put-attributes-spec : {M : Type 1} → statement M
 put-attributes-spec =
@@ -45,4 +45,4 @@ put-attributes-spec =
     (λ c. search walks)
     (λ c κs. search needs)
     (λ c. search walks)
-    (λ c. (attributes-next _ _ (c .before .before .before .before .before .before .before .before .before .before .before .before .before .before .args .v) _ _ _ _ _ (c .before .before .before .before .before .before .before .before .before .before .loop .inv .0) _ (c .before .before .before .before .before .before .before .attribute-in .ensures) _ _ _ (search seens) (c .before .before .put-attribute .ensures), search needs)))
+    (λ c. (attributes-next _ _ (c .before .before .before .before .before .before .before .before .before .before .before .before .before .before .before .args .v) _ _ _ _ _ (c .before .before .before .before .before .before .before .before .before .before .loop .inv .0) _ (c .before .before .before .before .before .before .before .attribute-in .ensures) _ _ _ (search seens) (c .before .before .put-attribute .ensures), search needs)))

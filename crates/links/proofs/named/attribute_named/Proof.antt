@@ -14,12 +14,12 @@ use Rattle.links.proofs.named.attribute_named.Statement.{statement}
 use Rattle.links.proofs.named.attribute_named.Tie as tie
 
 abbrev Inv-loop : tie.InvT-loop
-Inv-loop image id name nodes q reader kept₀ s₀ i₀ kept s i =
-    reading (attributeAt (q .reader) image) (soughtName reader image name (attributePlaced kept)) (runAt image q s i)
-    ≡ (onto (listOf (attributeAt (q .reader) image) (scanOf image q nodes)) λ xs t. after t (got (named reader image name xs)))
+Inv-loop image id name nodes q keys reader kept₀ s₀ i₀ kept s i =
+    reading (attributeAt (q .keys .reader) image) (soughtName reader image name (attributePlaced kept)) (runAt image q s i)
+    ≡ (onto (listOf (attributeAt (q .keys .reader) image) (scanOf image q nodes)) λ xs t. after t (got (named reader image name xs)))
 
 abbrev μ-loop : tie.MeasureT-loop
-μ-loop image id name nodes q reader kept₀ s₀ i₀ kept s i = rest image q s i
+μ-loop image id name nodes q keys reader kept₀ s₀ i₀ kept s i = rest image q s i
 
 pub attribute-named-spec : {M : Type 1} → statement M
 attribute-named-spec =

@@ -8,13 +8,13 @@ use Rattle.cursor.specs.Left.{runAt}
 use Rattle.cursor.proofs.Through.{rest}
 use Rattle.records.specs.Directory.{entryAt}
 use Rattle.lists.specs.Inner.{readable}
-use Rattle.lists.proofs.Turns.{seens}
+use Rattle.lists.proofs.Turns.{seens, entry-one}
 use Rattle.lines.specs.Shown.{entryShown}
 use Rattle.demand.specs.Listing.{entryForms, nodeForm}
 use Rattle.demand.specs.Demand.{viewOf}
 use Rattle.forms.specs.Inner.{run}
-use Rattle.listing.proofs.Laws.{nodes, inode-way-same, node-whole, entries-next, some-left, less-left}
-use Rattle.lists.proofs.Reading.{readable-over, readable-no}
+use Rattle.listing.proofs.Laws.{nodes, inode-way-same, node-whole, entries-passed, entries-next, some-left, less-left}
+use Rattle.lists.proofs.Reading.{less-at, less-passed, readable-over, readable-no}
 use borrow.Fn.Kinds.{In}
 use borrow.Fn.PlainCycle.{Measures, is, falls, and}
 use Rattle.listing.proofs.writers.put_entry.Reads as put-entry
@@ -57,13 +57,13 @@ put-node-below t =
     and 2 put-node-kinds.ps (falls 2 put-node-kinds.ps _<_ μ-put-node t) put-node.Pre
 
 abbrev put-node-Inv-loop : put-node-lts.InvT-loop
-put-node-Inv-loop out₀ room image v id levels q s₀ o₀ k₀ t21 t22 out s o k =
-    (run room (entryForms (nodeForm (viewOf image v) (levels - 1)) (map (entryShown (v .reader) image) (readable (entryAt (q .reader) image) (runAt image q s k)))) (outputOf o out)
-    ≡ run room (entryForms (nodeForm (viewOf image v) (levels - 1)) (map (entryShown (v .reader) image) (readable (entryAt (q .reader) image) (runAt image q s₀ k₀)))) (outputOf o₀ out₀))
+put-node-Inv-loop out₀ room image v id levels q keys s₀ o₀ k₀ t21 t22 out s o k =
+    (run room (entryForms (nodeForm (viewOf image v) (levels - 1)) (map (entryShown (v .reader) image) (readable (entryAt (q .keys .reader) image) (runAt image q s k)))) (outputOf o out)
+    ≡ run room (entryForms (nodeForm (viewOf image v) (levels - 1)) (map (entryShown (v .reader) image) (readable (entryAt (q .keys .reader) image) (runAt image q s₀ k₀)))) (outputOf o₀ out₀))
     × (length out ≡ length out₀)
 
 abbrev put-node-μ-loop : put-node-lts.MeasureT-loop
-put-node-μ-loop out₀ room image v id levels q s₀ o₀ k₀ t21 t22 out s o k = rest image q s k
+put-node-μ-loop out₀ room image v id levels q keys s₀ o₀ k₀ t21 t22 out s o k = rest image q s k
 
 pub +put-entry+put-node-spec : {M : Type 1} → statement M
 +put-entry+put-node-spec = close μ-put-entry μ-put-node (λ t. put-entry-lts.spec (
@@ -155,7 +155,7 @@ pub +put-entry+put-node-spec : {M : Type 1} → statement M
     -- put-node-same-length
     (λ c. search nodes)
     -- put-node-returns-2
-    (λ c. node-whole _ _ (c .before .before .before .before .before .before .before .before .before .before .before .before .before .before .before .before .before .before .before .before .before .before .before .args .v) _ _ _ _ (c .before .before .before .before .before .before .before .before .before .before .before .before .before .before .before .before .before .before .before .before .if1 .left) _ (c .before .before .before .before .before .before .before .before .before .before .before .before .before .before .before .before .before .before .inode-on .ensures) _ _ _ _ _ _ _ (c .before .before .before .before .before .before .before .before .before .before .before .before .before .before .before .before .read2 .given .1) (c .before .before .before .before .before .before .before .before .before .before .before .before .before .before .search .ensures) (c .before .before .before .before .before .before .before .before .before .before .before .before .before .list-on .ensures) (c .before .before .before .before .before .before .before .before .before .before .before .put-head .ensures) (c .before .before .before .before .before .before .before .before .loop .inv .0) (search (needs, seens, readable-over)) (c .before .before .put-all .ensures))
+    (λ c. node-whole _ _ (c .before .before .before .before .before .before .before .before .before .before .before .before .before .before .before .before .before .before .before .before .before .before .before .before .args .v) _ _ _ _ (c .before .before .before .before .before .before .before .before .before .before .before .before .before .before .before .before .before .before .before .before .before .if1 .left) _ (c .before .before .before .before .before .before .before .before .before .before .before .before .before .before .before .before .before .before .before .inode-on .ensures) _ _ _ _ _ _ _ (c .before .before .before .before .before .before .before .before .before .before .before .before .before .before .before .before .before .read2 .given .1) (c .before .before .before .before .before .before .before .before .before .before .before .before .before .before .before .search .ensures) (c .before .before .before .before .before .before .before .before .before .before .before .before .before .list-on .ensures) (c .before .before .before .before .before .before .before .before .before .before .before .put-head .ensures) (c .before .before .before .before .before .before .before .before .loop .inv .0) (search (needs, seens, readable-over)) (c .before .before .put-all .ensures))
     -- put-node-enum-told-2
     (λ c. search nodes)
     -- put-node-slice-aggregate-put-all-2
@@ -165,24 +165,24 @@ pub +put-entry+put-node-spec : {M : Type 1} → statement M
     -- put-node-same-length-2
     (λ c. search nodes)
     -- put-node-returns-3
-    (λ c. node-whole _ _ (c .before .before .before .before .before .before .before .before .before .before .before .before .before .before .before .before .before .before .before .before .before .before .before .args .v) _ _ _ _ (c .before .before .before .before .before .before .before .before .before .before .before .before .before .before .before .before .before .before .before .before .if1 .left) _ (c .before .before .before .before .before .before .before .before .before .before .before .before .before .before .before .before .before .before .inode-on .ensures) _ _ _ _ _ _ _ (c .before .before .before .before .before .before .before .before .before .before .before .before .before .before .before .before .read2 .given .1) (c .before .before .before .before .before .before .before .before .before .before .before .before .before .before .search .ensures) (c .before .before .before .before .before .before .before .before .before .before .before .before .before .list-on .ensures) (c .before .before .before .before .before .before .before .before .before .before .before .put-head .ensures) (c .before .before .before .before .before .before .before .before .loop .inv .0) (search (needs, seens, readable-no)) (c .before .before .put-all2 .ensures))
+    (λ c. node-whole _ _ (c .before .before .before .before .before .before .before .before .before .before .before .before .before .before .before .before .before .before .before .before .before .before .before .before .args .v) _ _ _ _ (c .before .before .before .before .before .before .before .before .before .before .before .before .before .before .before .before .before .before .before .before .before .if1 .left) _ (c .before .before .before .before .before .before .before .before .before .before .before .before .before .before .before .before .before .before .before .inode-on .ensures) _ _ _ _ _ _ _ (c .before .before .before .before .before .before .before .before .before .before .before .before .before .before .before .before .before .read2 .given .1) (c .before .before .before .before .before .before .before .before .before .before .before .before .before .before .before .search .ensures) (c .before .before .before .before .before .before .before .before .before .before .before .before .before .list-on .ensures) (c .before .before .before .before .before .before .before .before .before .before .before .put-head .ensures) (c .before .before .before .before .before .before .before .before .loop .inv .0) (search (needs, seens, readable-no)) (c .before .before .put-all2 .ensures))
     -- put-node-enum-told-3
     (λ c. search nodes)
     -- put-node-next-requires
     (λ c κs. search needs)
     -- put-node-loop-less
-    (λ c. search nodes)
+    (λ c. less-passed _ _ _ _ _ _ (c .before .before .before .before .entry-in .ensures) _ (search seens) (c .next .ensures))
     -- put-node-loop-again
-    (λ c. search nodes)
+    (λ c. (entries-passed _ _ _ (c .before .before .before .before .before .before .before .before .before .before .before .before .before .before .before .before .before .before .before .before .before .args .v) _ _ _ _ _ (c .before .before .before .before .before .loop .inv .0) _ (c .before .before .before .before .entry-in .ensures) _ (search seens) (c .next .ensures), c .before .before .before .before .before .loop .inv .1))
     -- put-node-enum-known-e
     (λ c. search nodes)
     -- put-node-sub-put-entry
-    (λ c. some-left _ (c .before .before .before .before .before .before .before .before .before .before .before .before .before .before .before .before .before .if1 .left))
+    (λ c. some-left _ (c .before .before .before .before .before .before .before .before .before .before .before .before .before .before .before .before .before .before .if1 .left))
     -- put-node-put-entry-requires
-    (λ c κs. (less-left _ _ (c .before .before .before .before .before .before .before .before .before .before .before .before .before .before .before .before .before .if1 .left) (c .before .before .before .before .before .before .before .before .before .before .before .before .before .before .before .before .before .before .before .before .pre .0), tt))
+    (λ c κs. (less-left _ _ (c .before .before .before .before .before .before .before .before .before .before .before .before .before .before .before .before .before .before .if1 .left) (c .before .before .before .before .before .before .before .before .before .before .before .before .before .before .before .before .before .before .before .before .before .pre .0), tt))
     -- put-node-loop-less-2
-    (λ c. search nodes)
+    (λ c. less-at _ _ _ _ _ _ (c .before .before .before .before .before .before .before .entry-in .ensures) _ _ (entry-one _ _ _ (c .before .before .before .before .before .e .given .1)))
     -- put-node-loop-again-2
-    (λ c. (entries-next _ _ _ (c .before .before .before .before .before .before .before .before .before .before .before .before .before .before .before .before .before .before .before .before .before .before .before .args .v) _ _ _ _ _ (c .before .before .before .before .before .before .before .before .loop .inv .0) _ (c .before .before .before .before .before .before .before .entry-in .ensures) _ _ _ (search seens) (c .before .before .put-entry .ensures), search needs))
+    (λ c. (entries-next _ _ _ (c .before .before .before .before .before .before .before .before .before .before .before .before .before .before .before .before .before .before .before .before .before .before .before .before .args .v) _ _ _ _ _ (c .before .before .before .before .before .before .before .before .loop .inv .0) _ (c .before .before .before .before .before .before .before .entry-in .ensures) _ _ _ (search seens) (c .before .before .put-entry .ensures), search needs))
     -- put-node-returns-4
     (λ c. search (nodes, c .refuse2 .ensures))

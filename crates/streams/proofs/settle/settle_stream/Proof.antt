@@ -14,12 +14,12 @@ use Rattle.streams.proofs.settle.settle_stream.Statement.{statement}
 use Rattle.streams.proofs.settle.settle_stream.Tie as tie
 
 abbrev Inv-loop : tie.InvT-loop
-Inv-loop image object size nodes q reader ruling₀ pos₀ s₀ i₀ ruling pos s i =
-    reading (extentAt (q .reader) image) (settling (diskOf reader image) size (ruled ruling) pos) (runAt image q s i)
-    ≡ (onto (listOf (extentAt (q .reader) image) (scanOf image q nodes)) λ es t. after t (settle (diskOf reader image) size 0 es))
+Inv-loop image object size nodes q keys reader ruling₀ pos₀ s₀ i₀ ruling pos s i =
+    reading (extentAt (q .keys .reader) image) (settling (diskOf reader image) size (ruled ruling) pos) (runAt image q s i)
+    ≡ (onto (listOf (extentAt (q .keys .reader) image) (scanOf image q nodes)) λ es t. after t (settle (diskOf reader image) size 0 es))
 
 abbrev μ-loop : tie.MeasureT-loop
-μ-loop image object size nodes q reader ruling₀ pos₀ s₀ i₀ ruling pos s i = rest image q s i
+μ-loop image object size nodes q keys reader ruling₀ pos₀ s₀ i₀ ruling pos s i = rest image q s i
 
 pub settle-stream-spec : {M : Type 1} → statement M
 settle-stream-spec =
