@@ -13,6 +13,7 @@ use Rattle.btree.specs.Scan.{Run, scanOf}
 use Rattle.btree.specs.declared.entries.Search.{Search}
 use Rattle.btree.specs.declared.entries.Place.{Place}
 use Rattle.cursor.specs.Left.{runAt, inStep, Begins}
+use Rattle.cursor.specs.declared.steps.Reached.{Reached}
 use Rattle.cursor.specs.declared.steps.Step.{Step}
 use Rattle.volume.specs.declared.Volume.{Volume}
 use Rattle.records.specs.Extent.{extentAt}
@@ -24,7 +25,7 @@ use Rattle.lists.proofs.Reading.{reading, list-start, list-over, list-at}
 use Rattle.lists.proofs.Turns as list-turns
 use Rattle.extents.proofs.Verdicts.{le-or-gt}
 use Rattle.extents.specs.Verdict.{Verdict, fine, _>>_, atMost}
-use Rattle.extents.specs.Extents.{diskOf, end, inOrder, apart}
+use Rattle.extents.specs.Extents.{diskOf, end, inOrder, apart, decide, seek}
 use Rattle.extents.specs.Inner.{judgeOf, judgedTold, judgedOf}
 use Rattle.extents.proofs.JudgeTurns.{told-decided}
 use Rattle.files.specs.File.{sizeOf}
@@ -127,6 +128,12 @@ pub whole-done : (b : List ℕ) (v : Volume) (i : Inode) (size : ℕ) (q : Searc
 unfolding wholeFrom
 whole-done b v i size q t r e h g = rw (e, h) at g
 
+-- a file without extents
+pub whole-none : (b : List ℕ) (v : Volume) (i : Inode) (t : Step) (r : Settled) → t .reached ≡ Reached.End → r ≡ record { ruling = Ruling.Fine; nodes = t .nodes } →
+    settledTold r ≡ wholeFrom b v i (runAt b (searchOf v (i .ids .«private_id») 8) t (t .from))
+unfolding wholeFrom wholeOver wholeVerdict inOrder judgeOf decide seek listOf runAt
+whole-none b v i t r e h = rw (h, e)
+
 -- where the step begins the file's extents
 pub whole-begun : (b : List ℕ) (v : Volume) (i : Inode) (s : ℕ) (q : Search) (t : Step) (r : Settled) → q ≡ searchOf v (i .ids .«private_id») 8 → Begins b q t (scanOf b q s)
     → settledTold r ≡ wholeFrom b v i (runAt b (searchOf v (i .ids .«private_id») 8) t (t .from)) → settledTold r ≡ settledWhole b v i s
@@ -137,4 +144,4 @@ pub ruleset all = (list-turns.turns, apart-no, apart-before, apart-within, apart
 
 pub ruleset aparts = (list-turns.turns, apart-start, apart-end, apart-next, apart-done)
 
-pub ruleset wholes = (list-turns.turns, whole-no, whole-judged, whole-done)
+pub ruleset wholes = (list-turns.turns, whole-no, whole-judged, whole-done, whole-none)

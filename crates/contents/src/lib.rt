@@ -1,5 +1,6 @@
 // Whether the whole of a file can be read, as the listing reads it: no extent may start before the end of the one before it.
 use btree::Search;
+use cursor::Reached;
 use cursor::Step;
 use cursor::next;
 use error::Refusal;
@@ -94,10 +95,14 @@ fn whole_over(image: &[u8], q: Search, size: u64, start: Step) -> Settled
     }
 }
 
-// Whether the whole of a file that is not compressed can be read, its extents from a step on.
+// Whether the whole of a file that is not compressed can be read, its extents from a step on; where there is none nothing is refused.
 pub fn settle_whole(image: &[u8], v: Volume, inode: Inode, start: Step) -> Settled
     ensures { λ r. ⌜ settledTold r ≡ wholeFrom (now (image .entry)) v inode (runAt (now (image .entry)) (searchOf v (inode .ids .«private_id») 8) start (start .from)) ⌝ }
 {
+    let reached = start.reached;
+    if let Reached::End = reached {
+        return with_nodes(Ruling::Fine, start.nodes);
+    }
     let ids = inode.ids;
     let size = size_of(inode);
     whole_over(image, search(v, ids.private_id, 8), size, start)

@@ -1,5 +1,5 @@
 -- The loop over the entries writes the lines that fit.
-use Prim.Native.Nat.{ℕ, suc, _+_, _-_, _≤_, _<_}
+use Prim.Native.Nat.{ℕ, suc, _+_, _-_, _/_, _^_, _≤_, _<_}
 use mathlib.Core.Path.{_≡_, refl, sym, ap, _∙_}
 use mathlib.Core.List.{List, [], _∷_, _++_}
 use mathlib.Core.Logic.{_⊎_, inl, inr}
@@ -22,7 +22,7 @@ use Rattle.btree.specs.declared.entries.Search.{Search}
 use Rattle.cursor.specs.Left.{left, runAt, inStep, Begins}
 use Rattle.cursor.specs.declared.steps.Step.{Step}
 use Rattle.volume.specs.declared.Volume.{Volume}
-use Rattle.records.specs.Directory.{entryAt}
+use Rattle.records.specs.Directory.{entryAt, entryName}
 use Rattle.records.specs.declared.directory.Entry.{Entry}
 use Rattle.lists.specs.Lists.{searchOf}
 use Rattle.extents.proofs.Verdicts.{le-or-gt}
@@ -36,6 +36,7 @@ use Rattle.calls.specs.Filled.{Filled, filled, filledAt}
 use Rattle.calls.proofs.Filling.{filled-fits}
 use Rattle.entry_lines.specs.Entries.{linesOf, fitting}
 use Rattle.entry_lines.specs.Inner.{lineAt, filledFrom}
+use Rattle.entry_lines.proofs.Short.{line-short}
 
 -- a text after n bytes, measured over l, which has no byte, and then written where it fits
 module _ (room n : ℕ) (t b l : List ℕ) (r : Position) (k : length l ≡ 0) (g : n ≤ room) (h : outputOf r l ≡ puts room t (at [] n)) where
@@ -77,6 +78,25 @@ module _ (rd : Reader) (image : List ℕ) (left : ℕ) (e : Entry) where
   pub next-passed : (room n : ℕ) (b : List ℕ) → 0 < left → n ≤ room → filledAt (At n) b ≡ filledFrom room n (lineAt rd image left e) b
   unfolding filledFrom
   next-passed room n b h g = rw (← line-later h) (at-most _ _ _ _ _ (rw add-zero g) (rw add-zero))
+
+  -- a line that is surely short enough
+  pub next-direct : (room n : ℕ) (b name : List ℕ) (p : Position) (x : List ℕ) → left ≤ 0 → e .«file_id» < 2 ^ 64 → e .«date_added» < 2 ^ 64 → e .kind < 2 ^ 64 →
+      n ≤ room → 80 ≤ room - n → name ≡ entryName rd image e → length name ≤ (room - n - 80) / 6 →
+      outputOf p x ≡ puts room (entryLine (entryShown rd image e) []) (at b n) → filledAt p x ≡ filledFrom room n (lineAt rd image left e) b
+  unfolding filledFrom
+  next-direct room n b name p x h i d k g l a s w =
+      let t = line-short rd image e i d k in
+      let q : length (entryName rd image e) ≤ (room - n - 80) / 6 = rw a at s in
+      let f : n + length (entryLine (entryShown rd image e) []) ≤ room = omega arith in
+      rw (← line-here h) (at-most _ _ _ _ _ f (of p (w ∙ fits room (entryLine (entryShown rd image e) []) b n f)))
+    where
+      of : (p : Position) → outputOf p x ≡ at (sets b n (entryLine (entryShown rd image e) [])) (n + length (entryLine (entryShown rd image e) [])) →
+          filledAt p x ≡ record { answer = got (n + length (entryLine (entryShown rd image e) [])); buffer = sets b n (entryLine (entryShown rd image e) []) }
+      of (At u) j =
+          let a : u ≡ n + length (entryLine (entryShown rd image e) []) = cc in
+          let c : x ≡ sets b n (entryLine (entryShown rd image e) []) = cc in
+          rw (a, c)
+      of (No y) j = absurd (let z : _≡_ {A = ℕ} 0 1 = cc in omega arith)
 
   module _ (room n : ℕ) (b l : List ℕ) (r : Position) (h : left ≤ 0) (k : length l ≡ 0) (g : n ≤ room) (m : outputOf r l ≡ puts room (entryLine (entryShown rd image e) []) (at [] n)) where
     pub next-short : (w : Refusal) → r ≡ No w → filledAt (No w) (l ++ b) ≡ filledFrom room n (lineAt rd image left e) b
@@ -211,6 +231,6 @@ fitting-written ts b l x n k e =
     let c : x ≡ t ++ drop (length t) b = cc in
     rw (a, c) (filled-fits t b d)
 
-pub ruleset passes = (needs, next-passed, next-short, next-written)
+pub ruleset passes = (needs, next-passed, next-direct, next-short, next-written)
 
 pub ruleset walks = (needs, seens, less-at, less-passed, lines-start, lines-over, lines-no, lines-passed, lines-full, lines-within, lines-done)

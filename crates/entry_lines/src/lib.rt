@@ -11,6 +11,7 @@ use lists::fewer;
 use lists::search;
 use obj::Reader;
 use records::Entry;
+use records::entry_name;
 use text::Position;
 use volume::Volume;
 use volume::VolumeOpening;
@@ -27,7 +28,8 @@ ghost use Rattle.calls.specs.Filled.{filledAt, filledBy};
 ghost use Rattle.entry_lines.specs.Entries.{linesOf, fitting, entriesOn, entriesText};
 ghost use Rattle.entry_lines.specs.Inner.{lineAt, filledFrom, entriesFrom};
 
-// The line of an entry after n bytes, where it fits; nothing of an entry that is to be passed.
+// The line of an entry after n bytes, where it fits; nothing of an entry that is to be passed. No line is longer than 80 bytes and 6 for
+// each byte of its name, so that where as many are left it is not measured first.
 fn put_next(
     out: &mut [u8],
     room: usize,
@@ -42,6 +44,11 @@ fn put_next(
 {
     if 0 < left {
         return Position::At(n);
+    }
+    if 80 <= room - n {
+        if entry_name(reader, image, e).len() <= (room - n - 80) / 6 {
+            return put_entry_line(out, room, Position::At(n), image, reader, e);
+        }
     }
     match put_entry_line(&mut out[..0], room, Position::At(n), image, reader, e) {
         Position::No(w) => Position::No(w),

@@ -13,7 +13,9 @@ use Rattle.text.specs.declared.Position.{Position}
 use Rattle.text.specs.declared.Position.the-variants.{No}
 use Rattle.btree.specs.Scan.{Run, scanOf}
 use Rattle.cursor.specs.Left.{runAt, Begins}
+use Rattle.cursor.specs.declared.steps.Reached.{Reached}
 use Rattle.cursor.specs.declared.steps.Step.{Step}
+use Rattle.btree.specs.declared.entries.Place.{Place}
 use Rattle.btree.specs.declared.entries.Search.{Search}
 use Rattle.records.specs.Directory.{entryAt}
 use Rattle.volume.specs.declared.Volume.{Volume}
@@ -60,6 +62,11 @@ module _ {A : Type 0} (c : Counted (List A)) (k n : ℕ) (p : Position) where
   tested-done : (o : Option A) → after n (got o) ≡ placed k c → Tested (c .answer) p p
   unfolding Tested
   tested-done o h l = ap (λ (x : End). ending x (outputOf p l)) (sym (placed-done c k n o h))
+
+-- a list that has ended where it begins
+pub tested-none : {A : Type 0} (g : Place → Answer A) (b : List ℕ) (q : Search) (t : Step) (i : ℕ) (p : Position) → t .reached ≡ Reached.End → Tested (listOf g (runAt b q t i) .answer) p p
+unfolding Tested listOf runAt
+tested-none g b q t i p e l = rw e
 
 module _ (k : ℕ) (p : Position) where
   module _ (c : Counted (List Entry)) (r : EntryFound) (h : entryFound r ≡ placed k c) where
@@ -165,4 +172,4 @@ module _ (room : ℕ) (b : List ℕ) (v : Volume) (i : Inode) (u : Step) (o : Ou
   head-all t c r z k x f g =
       head-whole room b v i (runAt b (searchOf v (i .id) 4) t (t .from)) (runAt b (searchOf v (i .id) 9) u (u .from)) o (outputOf a l) h (k .run) (outputOf c l) r z (x l) f g
 
-pub ruleset heads = (needs, entries-no, entries-at, entries-over, attributes-no, attributes-at, attributes-over, lists-tested, head-refused)
+pub ruleset heads = (needs, tested-none, entries-no, entries-at, entries-over, attributes-no, attributes-at, attributes-over, lists-tested, head-refused)

@@ -2,6 +2,7 @@
 use crate::attributes::put_attributes;
 use crate::contents_line::put_data;
 use crate::refusing::refuse;
+use cursor::Reached;
 use cursor::Step;
 use cursor::Way;
 use inode_record::Inode;
@@ -22,10 +23,14 @@ ghost use Rattle.records.specs.Directory.{entryAt};
 ghost use Rattle.lists.specs.Lists.{searchOf, listOf};
 ghost use Rattle.forms.specs.Inner.{run, Tested, listsOf, headTrace};
 
-// A place that no list reaches: the whole list from a step on is read.
+// A place that no list reaches: the whole list from a step on is read, unless it has ended there.
 fn read_attributes(p: Position, image: &[u8], v: Volume, id: u64, start: Step) -> Position
     ensures { λ r. ⌜ Tested (listOf (attributeAt (v .reader) (now (image .entry))) (runAt (now (image .entry)) (searchOf v id 4) start (start .from)) .answer) p r ⌝ }
 {
+    let reached = start.reached;
+    if let Reached::End = reached {
+        return p;
+    }
     let found = attribute_from(image, v, id, 18446744073709551615, start);
     let attribute = found.attribute;
     match attribute {
@@ -38,6 +43,10 @@ fn read_attributes(p: Position, image: &[u8], v: Volume, id: u64, start: Step) -
 fn read_entries(p: Position, image: &[u8], v: Volume, id: u64, start: Step) -> Position
     ensures { λ r. ⌜ Tested (listOf (entryAt (v .reader) (now (image .entry))) (runAt (now (image .entry)) (searchOf v id 9) start (start .from)) .answer) p r ⌝ }
 {
+    let reached = start.reached;
+    if let Reached::End = reached {
+        return p;
+    }
     let found = entry_from(image, v, id, 18446744073709551615, start);
     let entry = found.entry;
     match entry {

@@ -1,18 +1,20 @@
 -- An inode, and the lists of its id, on the way down to it.
-use Prim.Native.Nat.{ℕ}
+use Prim.Native.Nat.{ℕ, _-_, _≤_}
 use mathlib.Core.Path.{_≡_, refl, sym, ap, _∙_}
 use mathlib.Core.List.{List}
 use Rattle.error.specs.Answer.{no}
 use Rattle.error.specs.declared.Refusal.{Refusal}
 use Rattle.error.specs.declared.Refusal.the-variants.{NotFound}
 use Rattle.lookup.specs.Counted.{Counted, after, onto}
-use Rattle.btree.specs.Scan.{Run, more, end, refused, scanOf, nth}
-use Rattle.btree.specs.Inner.{kinded}
+use Rattle.node.specs.Node.{leafBit}
+use Rattle.btree.specs.Scan.{Run, more, end, refused, Tail, scanOf, nth}
+use Rattle.btree.specs.Inner.{leafFrom, inNode, child, kinded}
 use Rattle.btree.specs.declared.entries.Search.{Search}
 use Rattle.btree.specs.declared.entries.Place.{Place}
 use Rattle.btree.specs.declared.leaf.InLeaf.{InLeaf}
 use Rattle.btree.specs.declared.leaf.InLeaf.the-variants.{At, Passed, End, No}
-use Rattle.cursor.specs.Left.{runAt, inStep, Begins}
+use Rattle.btree.proofs.Turns.{leaf-at, as-leaf}
+use Rattle.cursor.specs.Left.{left, runAt, inStep, Begins}
 use Rattle.cursor.specs.Way.{Leads}
 use Rattle.cursor.specs.declared.steps.Step.{Step}
 use Rattle.cursor.specs.declared.way.Way.{Way}
@@ -56,5 +58,16 @@ module _ (b : List ℕ) (v : Volume) (id s : ℕ) (q : Search) (e : q ≡ search
     pub begun-no : (w : Refusal) → x ≡ No w → after (t .nodes) (no w) ≡ inodeOf b v id s
     unfolding nth
     begun-no w h = found _ (run-no b q t (t .from) x p w h)
+
+  -- the record at which the way ends
+  pub way-at : (w : Way) (x : InLeaf) (y : Place) (a : ℕ) (z : InodeRead) → Leads b (searchOf v id 3) s w → q .root .level ≤ 32 → leafBit (w .node .flags) ≡ 1 →
+      x ≡ inNode b q (w .node) (w .from) → x ≡ At y a → inodeTold z ≡ inodeAt (v .reader) b y id → after (w .nodes) (inodeTold z) ≡ inodeOf b v id s
+  unfolding inodeOf nth
+  way-at w x y a z l h f p g k =
+      let o = leads-to w l .own h in
+      let u : leafFrom b q (w .node) (w .node .nkeys - w .from) (w .from) (w .nodes) (left b q (w .path) (w .level) (w .nodes)) ≡ scanOf b q s
+      = ap (λ (t : Tail). t (w .nodes)) (as-leaf (child b q (w .level)) b q (w .node) (w .from) (left b q (w .path) (w .level)) f) ∙ o in
+      let m = leaf-at b q (w .node) (w .from) (w .nodes) (left b q (w .path) (w .level) (w .nodes)) (scanOf b q s) u x p y a g in
+      ap (after (w .nodes)) k ∙ rw (← e, ← m)
 
 pub ruleset begun = (record-laws.all, begun-at, begun-passed, begun-end, begun-no)

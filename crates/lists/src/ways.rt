@@ -2,6 +2,7 @@
 use crate::inodes::InodeFound;
 use crate::tree::search;
 use btree::InLeaf;
+use btree::next_in;
 use cursor::Step;
 use cursor::Way;
 use cursor::begin;
@@ -25,8 +26,8 @@ pub fn inode_way(image: &[u8], v: Volume, id: u64, nodes: u64) -> Way
     way_down(image, search(v, id, 3), nodes)
 }
 
-// The first inode record of an id.
-pub fn inode_on(image: &[u8], v: Volume, id: u64, w: Way, nodes: u64) -> InodeFound
+// The first inode record of an id, where its search begins.
+fn inode_begun(image: &[u8], v: Volume, id: u64, w: Way, nodes: u64) -> InodeFound
     requires { ⌜ Leads (now image) (searchOf v id 3) nodes w ⌝ }
     ensures { λ r. ⌜ inodeFound r ≡ inodeOf (now (image .entry)) v id nodes ⌝ }
 {
@@ -52,6 +53,28 @@ pub fn inode_on(image: &[u8], v: Volume, id: u64, w: Way, nodes: u64) -> InodeFo
             nodes: s.nodes,
         },
     }
+}
+
+// The first inode record of an id: mostly it stands where the way leads to.
+pub fn inode_on(image: &[u8], v: Volume, id: u64, w: Way, nodes: u64) -> InodeFound
+    requires { ⌜ Leads (now image) (searchOf v id 3) nodes w ⌝ }
+    ensures { λ r. ⌜ inodeFound r ≡ inodeOf (now (image .entry)) v id nodes ⌝ }
+{
+    let reader = v.reader;
+    let q = search(v, id, 3);
+    let root = q.root;
+    let node = w.node;
+    if root.level <= 32 {
+        if node.flags / 2 % 2 == 1 {
+            if let InLeaf::At(p, _) = next_in(image, q.keys, node, w.from) {
+                return InodeFound {
+                    inode: inode_at(reader, image, p, id),
+                    nodes: w.nodes,
+                };
+            }
+        }
+    }
+    inode_begun(image, v, id, w, nodes)
 }
 
 // Where an id's records of a kind begin.

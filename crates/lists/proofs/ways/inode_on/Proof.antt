@@ -1,4 +1,4 @@
-use Rattle.lists.proofs.OnWay.{leads-to, begun}
+use Rattle.lists.proofs.OnWay.{way-at}
 use borrow.Author.Needs.{needs}
 use Rattle.lists.proofs.ways.inode_on.Statement.{statement}
 use Rattle.lists.proofs.ways.inode_on.Tie as tie
@@ -8,14 +8,9 @@ inode-on-spec =
     tie.close
     (tie.spec
     (λ c κs. search needs)
-    (λ c κs. search (needs, leads-to))
     (λ c κs. search needs)
     (λ c. search needs)
     (λ c κs. search needs)
-    (λ c. search needs)
-    (λ c. search needs)
-    (λ c. search needs)
-    (λ c. search begun)
-    (λ c. search begun)
-    (λ c. search begun)
-    (λ c. search begun))
+    (λ c. search (needs, way-at))
+    (λ c κs. search needs)
+    (λ c. search needs))
