@@ -3,8 +3,10 @@ use Prim.Native.Nat.{ℕ, _≤_, _<_}
 use mathlib.Core.Path.{_≡_, refl, sym, ap, _∙_, fun-ext}
 use mathlib.Core.Bool.{Bool, true, false}
 use mathlib.Core.List.{List, [], _∷_}
+use lib.Dec.{leb}
 use native.Mathlib.Omega.{arith}
 use borrow.Author.Needs.{needs}
+use borrow.Author.Tests.{leb-true, leb-false}
 use Rattle.error.specs.Answer.{Answer, got, no, pick, ifLe}
 use Rattle.error.specs.declared.Refusal.{Refusal}
 use Rattle.error.specs.declared.Refusal.the-variants.{Corrupt}
@@ -186,6 +188,13 @@ module _ (b : List ℕ) (q : Search) (off stop : ℕ) (n : Run) where
         goes = on;
         near = λ r d. seek-past off (e .logical) _ _ v (rw (o .last) at d) ∙ sym (seek-stays off _ e _ v) ∙ from-here r d;
       }
+
+-- whether an extent begins at or before the offset
+pub by-start : (a b : ℕ) (z : Bool) → z ≡ leb a b → z ≡ true → a ≤ b
+by-start a b z e t = leb-true a b (sym e ∙ t)
+
+pub by-later : (a b : ℕ) (z : Bool) → z ≡ leb a b → z ≡ false → b < a
+by-later a b z e t = leb-false a b (sym e ∙ t)
 
 pub kept-same : (b : List ℕ) (q : Search) (d e : Step) (f : ℕ) → d ≡ e → runAt b q e f ≡ runAt b q d f
 kept-same b q d e f h = rw h

@@ -12,6 +12,7 @@ use obj::Reader;
 use records::Extent;
 ghost use mathlib.Core.Path.{_≡_};
 ghost use mathlib.Core.Bool.{false};
+ghost use lib.Dec.{leb};
 ghost use Rattle.error.specs.Answer.{pick, ifLe};
 ghost use Rattle.btree.specs.Scan.{scanOf};
 ghost use Rattle.cursor.specs.Left.{runAt};
@@ -102,6 +103,13 @@ fn kept_of(here: bool, s: Step, before: Step) -> Step
     before
 }
 
+// The extents from the last one that begins at or before the offset on are read.
+fn begins_by(e: Extent, off: u64) -> bool
+    ensures { λ r. ⌜ r ≡ leb (e .logical) off ⌝ }
+{
+    e.logical <= off
+}
+
 // The extents from a step on.
 pub fn judge_from(image: &[u8], q: Search, off: u64, stop: u64, start: Step) -> Judged
     ensures { λ r. ⌜ judgedTold (now (image .entry)) q r ≡ judgedOf (now (image .entry)) q off stop (runAt (now (image .entry)) q start (start .from)) ⌝ }
@@ -132,7 +140,7 @@ pub fn judge_from(image: &[u8], q: Search, off: u64, stop: u64, start: Step) -> 
             }
             ExtentIn::At(e, after) => {
                 j = one_more(image, reader, off, stop, j, e);
-                if e.logical <= off {
+                if begins_by(e, off) {
                     here = true;
                     from = i;
                 }

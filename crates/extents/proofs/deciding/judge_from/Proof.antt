@@ -2,7 +2,7 @@ use mathlib.Core.Path.{refl}
 use Rattle.error.specs.Answer.{pick}
 use Rattle.cursor.specs.Left.{runAt}
 use Rattle.cursor.proofs.Through.{rest}
-use Rattle.extents.proofs.JudgeTurns.{turns, Going, kept-same, judge-start, judge-end, judge-passed, judge-near, judge-far}
+use Rattle.extents.proofs.JudgeTurns.{turns, Going, kept-same, judge-start, judge-end, judge-passed, judge-near, judge-far, by-start, by-later}
 use Rattle.extents.proofs.deciding.judge_from.Statement.{statement}
 use Rattle.extents.proofs.deciding.judge_from.Tie as tie
 
@@ -36,7 +36,8 @@ judge-from-spec =
     (λ c. rw (c .before .before .kept-of2 .ensures) (judge-passed _ _ _ _ _ _ _ _ _ (c .before .before .before .before .before .before .loop .inv) _ (c .before .before .before .before .before .extent-in .ensures) (search turns) _ (c .next .ensures)))
     (λ c. search turns)
     (λ c κs. search turns)
+    (λ c κs. search turns)
     (λ c. search turns)
-    (λ c. judge-near _ _ _ _ _ _ _ _ _ (c .before .before .before .before .before .before .before .loop .inv) _ (c .before .before .before .before .before .before .extent-in .ensures) _ _ (search turns) _ (c .before .before .one-more .ensures) (search turns))
+    (λ c. judge-near _ _ _ _ _ _ _ _ _ (c .before .before .before .before .before .before .before .loop .inv) _ (c .before .before .before .before .before .before .extent-in .ensures) _ _ (search turns) _ (c .before .before .one-more .ensures) (by-start _ _ _ (c .before .begins-by .ensures) (search turns)))
     (λ c. search turns)
-    (λ c. judge-far _ _ _ _ _ _ _ _ _ (c .before .before .before .before .before .before .before .loop .inv) _ (c .before .before .before .before .before .before .extent-in .ensures) _ _ (search turns) _ (c .before .before .one-more .ensures) (search turns)))
+    (λ c. judge-far _ _ _ _ _ _ _ _ _ (c .before .before .before .before .before .before .before .loop .inv) _ (c .before .before .before .before .before .before .extent-in .ensures) _ _ (search turns) _ (c .before .before .one-more .ensures) (by-later _ _ _ (c .before .begins-by .ensures) (search turns))))
