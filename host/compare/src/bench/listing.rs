@@ -1,5 +1,5 @@
-//! Listings of flat and nested volumes of several sizes, of a file with data, and of nodes with attributes. Both sides open the container and the volume for
-//! each listing.
+//! Listings of flat and nested volumes of several sizes, of a file with data, and of nodes with attributes.
+//! Both sides open the container and the volume for each listing.
 
 use std::hint::black_box;
 use std::sync::Arc;
