@@ -4,16 +4,24 @@ use mathlib.Core.Path.{_≡_, refl, sym, ap, _∙_}
 use mathlib.Core.List.{List}
 use native.Mathlib.Omega.{arith}
 use borrow.Author.Needs.{needs}
-use Rattle.error.specs.Answer.{Answer, got, no}
+use Rattle.error.specs.Answer.{Answer, got, no, _>>=_}
 use Rattle.error.specs.declared.Refusal.{Refusal}
 use Rattle.node.specs.declared.layout.Node.{Node}
 use Rattle.node.specs.declared.layout.Info.{Info}
-use Rattle.btree.specs.Entries.{bytesOf, Leaf, passOver, endScan, recordAt, itemTold, itemIn, itemAt}
+use Rattle.node.specs.declared.table.KeyValue.{KeyValue}
+use Rattle.node.specs.declared.table.Value.{Value}
+use Rattle.node.specs.declared.table.Value.the-variants as value
+use Rattle.node.specs.Entry.{keyValueAt}
+use Rattle.bytes.specs.Part.{partOf}
+use Rattle.bytes.specs.declared.Span.{Span}
+use Rattle.btree.specs.Entries.{bytesOf, keyOrder, byOrder, Leaf, passOver, endScan, recordAt, recordOf, itemTold, itemIn, itemAt}
 use Rattle.btree.specs.Scan.{Run, more}
 use Rattle.btree.specs.Inner.{leafThen, leafFrom, itemThen, inLeaf, inNode, inThen}
 use Rattle.btree.specs.declared.entries.Search.{Search}
 use Rattle.btree.specs.declared.entries.Place.{Place}
 use Rattle.btree.specs.declared.entries.Item.{Item}
+use Rattle.btree.specs.declared.entries.Order.{Order}
+use Rattle.btree.specs.declared.entries.Order.the-variants.{Below, Inside, Above}
 use Rattle.btree.specs.declared.entries.Item.the-variants as item
 use Rattle.btree.specs.declared.leaf.InLeaf.{InLeaf}
 use Rattle.btree.specs.declared.leaf.InLeaf.the-variants.{At, Passed, End, No}
@@ -101,6 +109,38 @@ module _ (b : List ℕ) (q : Search) (m : Node) where
   -- so what is left from the record's entry on is what is left
   pub leaf-jump : (i s : ℕ) (k : Run) (p : Place) (a : ℕ) → inNode b q m i ≡ At p a → leafFrom b q m (m .nkeys - (a - 1)) (a - 1) s k ≡ leafFrom b q m (m .nkeys - i) i s k
   leaf-jump i s k p a e = leaf-in (a - 1) s k ∙ (ap (λ (x : InLeaf). inThen b q m x s k) (in-back i p a e ∙ sym e) ∙ sym (leaf-in i s k))
+
+-- a record of a leaf lies in the leaf's block
+module _ (b : List ℕ) (m : Node) (info : Info) (id kind : ℕ) (p : Place) where
+  of-record : (key : Span) (v : Value) → recordOf m key v ≡ recordAt p → p .block ≡ m .block
+  unfolding recordOf
+  of-record key (value.At v) e = cc
+  of-record key value.Missing e = absurd (let z : _≡_ {A = ℕ} 0 1 = cc in omega arith)
+
+  of-order : (e : KeyValue) (o : Order) → byOrder o (got passOver) (got (recordOf m (e .key) (e .value))) (got endScan) ≡ got (recordAt p) → p .block ≡ m .block
+  unfolding byOrder
+  of-order e Below h = absurd (let z : _≡_ {A = ℕ} 0 1 = cc in omega arith)
+  of-order e Inside h = of-record (e .key) (e .value) cc
+  of-order e Above h = absurd (let z : _≡_ {A = ℕ} 0 1 = cc in omega arith)
+
+  of-key : (e : KeyValue) (x : Answer Order) → (x >>= λ o. byOrder o (got passOver) (got (recordOf m (e .key) (e .value))) (got endScan)) ≡ got (recordAt p) → p .block ≡ m .block
+  of-key e (got o) h = of-order e o h
+  of-key e (no w) h = absurd (let z : _≡_ {A = ℕ} 0 1 = cc in omega arith)
+
+  of-entry : (x : Answer KeyValue) → (x >>= λ e. keyOrder id kind (partOf b (e .key)) >>= λ o. byOrder o (got passOver) (got (recordOf m (e .key) (e .value))) (got endScan)) ≡ got (recordAt p) → p .block ≡ m .block
+  of-entry (got e) h = of-key e (keyOrder id kind (partOf b (e .key))) h
+  of-entry (no w) h = absurd (let z : _≡_ {A = ℕ} 0 1 = cc in omega arith)
+
+  of-item : (x : Answer Leaf) (a j : ℕ) (k : InLeaf) → (x ≡ got (recordAt p) → p .block ≡ m .block) → (k ≡ At p a → p .block ≡ m .block) → itemThen x j k ≡ At p a → p .block ≡ m .block
+  of-item (got passOver) a j k g t e = t e
+  of-item (got endScan) a j k g t e = absurd (let z : _≡_ {A = ℕ} 0 1 = cc in omega arith)
+  of-item (got (recordAt y)) a j k g t e = g cc
+  of-item (no w) a j k g t e = absurd (let z : _≡_ {A = ℕ} 0 1 = cc in omega arith)
+
+  pub in-block : (n i a : ℕ) → inLeaf b m info id kind n i ≡ At p a → p .block ≡ m .block
+  unfolding inLeaf itemIn
+  in-block zero i a e = absurd (let z : _≡_ {A = ℕ} 0 1 = cc in omega arith)
+  in-block (suc n) i a e = of-item (itemIn b m info id kind i) a (i + 1) (inLeaf b m info id kind n (i + 1)) (of-entry (keyValueAt b m info i)) (in-block n (i + 1) a) e
 
 -- where the block was read as a list s that is u
 pub in-of : (s u : List ℕ) (m : Node) (info : Info) (id kind n i : ℕ) (z : InLeaf) → s ≡ u → z ≡ inLeaf s m info id kind n i → z ≡ inLeaf u m info id kind n i

@@ -19,7 +19,7 @@ pub enum InLeaf {
 }
 
 // The first record of a leaf in the block b, from an entry on.
-fn in_leaf(b: &[u8], node: Node, info: Info, id: u64, kind: u8, from: u32) -> InLeaf
+pub fn in_leaf(b: &[u8], node: Node, info: Info, id: u64, kind: u8, from: u32) -> InLeaf
     ensures { λ r. ⌜ r ≡ inLeaf (now (b .entry)) node info id kind (node .nkeys - from) from ⌝ }
 {
     let mut i = from;

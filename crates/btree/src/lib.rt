@@ -16,6 +16,7 @@ pub use entries::Search;
 pub use entries::key_of;
 pub use entries::value_of;
 pub use leaf::InLeaf;
+pub use leaf::in_leaf;
 pub use leaf::next_in;
 pub use seek::Seek;
 pub use seek::Turn;

@@ -35,7 +35,7 @@ use Rattle.lines.specs.Shown.{inodeShown}
 use Rattle.lines.specs.Lines.{nodeLine}
 use Rattle.demand.specs.Trace.{End, done, stop, Trace, says, _then_, reading}
 use Rattle.forms.specs.Inner.{ending, run, endOf, Tested, listsOf, attributeTraces, dataTrace, headTrace}
-use Rattle.forms.proofs.Running.{run-says, run-refused, run-then, reading-got, reading-no}
+use Rattle.forms.proofs.Running.{run-says, run-refused, stays, run-then, reading-got, reading-no}
 
 -- an element by place says whether its list could be read
 module _ {A : Type 0} (c : Counted (List A)) (k n : ℕ) where
@@ -114,11 +114,6 @@ pub lists-tested : (b : List ℕ) (v : Volume) (id : ℕ) (s t : Step) (p q r : 
 unfolding listsOf
 lists-tested b v id s t p q r =
     both-tested (listOf (attributeAt (v .reader) b) (runAt b (searchOf v id 4) s (s .from)) .answer) (listOf (entryAt (v .reader) b) (runAt b (searchOf v id 9) t (t .from)) .answer) p q r
-
--- a refusal stays
-stays : (room : ℕ) (t : Trace) (w : Refusal) (o : Output) → run room t (ending (stop w) o) ≡ ending (stop w) o
-stays room t w (at b n) = run-refused room t w
-stays room t w (refused e) = run-refused room t e
 
 -- the attributes are those of the run m, the entries those of the run n
 module _ (room : ℕ) (b : List ℕ) (v : Volume) (i : Inode) (m n : Run) (o p : Output) (h : p ≡ puts room (nodeLine (inodeShown (v .reader) b i) []) o) (whole : m ≡ scanOf b (searchOf v (i .id) 4) 0) where

@@ -25,17 +25,18 @@ module _ (room : ℕ) where
       of done = refl
       of (stop e) = refl
 
+  -- a refusal stays
+  pub stays : (t : Trace) (w : Refusal) (o : Output) → run room t (ending (stop w) o) ≡ ending (stop w) o
+  stays t w (at b n) = run-refused t w
+  stays t w (refused e) = run-refused t e
+
   pub run-then : (t u : Trace) (o : Output) → run room (t then u) o ≡ run room u (run room t o)
   unfolding run _then_
   run-then t u o = of (t .ended)
     where
-      stopped : (e : Refusal) (x : Output) → ending (stop e) x ≡ ending (u .ended) (puts room (u .text) (ending (stop e) x))
-      stopped e (at b n) = sym (run-refused u e)
-      stopped e (refused w) = sym (run-refused u w)
-
       of : (e : End) → ending (goOn (t .text) e u .ended) (puts room (goOn (t .text) e u .text) o) ≡ ending (u .ended) (puts room (u .text) (ending e (puts room (t .text) o)))
       of done = ap (ending (u .ended)) (puts-append room (t .text) (u .text) o)
-      of (stop e) = stopped e (puts room (t .text) o)
+      of (stop e) = sym (stays u e (puts room (t .text) o))
 
   pub then-run : (t u : Trace) (o p z : Output) → p ≡ run room t o → z ≡ run room u p → z ≡ run room (t then u) o
   then-run t u o p z e h = h ∙ ap (run room u) e ∙ sym (run-then t u o)

@@ -8,7 +8,7 @@ use lib.Dec.{eqb}
 use Rattle.error.specs.Answer.{Answer, got, no, _>>=_, pick, ifEq}
 use Rattle.error.specs.declared.Refusal.{Refusal}
 use Rattle.lookup.specs.Counted.{Counted}
-use Rattle.text.specs.Output.{Output, at, refused}
+use Rattle.text.specs.Output.{Output}
 use Rattle.btree.specs.Scan.{scanOf}
 use Rattle.btree.specs.declared.entries.Search.{Search}
 use Rattle.cursor.specs.Left.{runAt, Begins}
@@ -33,12 +33,7 @@ use Rattle.demand.proofs.Inodes.{inode-placed}
 use Rattle.lists.specs.Inner.{readable}
 use Rattle.lists.proofs.Reading.{listed}
 use Rattle.forms.specs.Inner.{ending, run, attributeTrace, attributeTraces, plainTrace, dataTrace, headTrace}
-use Rattle.forms.proofs.Running.{run-refused, run-then, reading-got, reading-no}
-
--- a refusal stays
-stays : (room : ℕ) (t : Trace) (w : Refusal) (o : Output) → run room t (ending (stop w) o) ≡ ending (stop w) o
-stays room t w (at b n) = run-refused room t w
-stays room t w (refused e) = run-refused room t e
+use Rattle.forms.proofs.Running.{stays, run-then, reading-got, reading-no}
 
 -- what the view shows is what the code reads
 attributes-as : (b : List ℕ) (v : Volume) (l : List Attribute) → attributeLines (map (withContents b v) l) ≡ attributeTraces b v l

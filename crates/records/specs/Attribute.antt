@@ -9,6 +9,7 @@ use Rattle.bytes.specs.Number.{numberAt}
 use Rattle.bytes.specs.Part.{partOf, spanAt, upToZero}
 use Rattle.bytes.specs.declared.Span.{Span}
 use Rattle.obj.specs.declared.reader.Reader.{Reader}
+use Rattle.obj.specs.Block.{blockOf}
 use Rattle.btree.specs.Entries.{keyOf, valueOf}
 use Rattle.btree.specs.declared.entries.Place.{Place}
 use Rattle.records.specs.declared.attribute.Attribute.{Attribute}
@@ -54,8 +55,12 @@ attributeValue p key value =
     dataIn value flags >>= λ d.
     withName p key n flags d
 
+-- the attribute of a record in the block b
+unfoldable pub attributeOf : List ℕ → Place → Answer Attribute
+attributeOf b p = attributeValue p (partOf b (p .key)) (partOf b (p .value))
+
 unfoldable pub attributeAt : Reader → List ℕ → Place → Answer Attribute
-attributeAt r b p = attributeValue p (keyOf r b p) (valueOf r b p)
+attributeAt r b p = attributeOf (blockOf r b (p .block)) p
 
 -- "a name comes back as the part of the image that holds it", "up to the first zero byte"
 unfoldable pub attributeName : Reader → List ℕ → Attribute → List ℕ

@@ -8,7 +8,8 @@ use Rattle.bytes.specs.Number.{numberAt}
 use Rattle.bytes.specs.Part.{partOf, upToZero}
 use Rattle.bytes.specs.declared.Span.{Span}
 use Rattle.obj.specs.declared.reader.Reader.{Reader}
-use Rattle.btree.specs.Entries.{keyOf, valueOf}
+use Rattle.obj.specs.Block.{blockOf}
+use Rattle.btree.specs.Entries.{keyOf}
 use Rattle.btree.specs.declared.entries.Place.{Place}
 use Rattle.records.specs.declared.directory.Entry.{Entry}
 use Rattle.records.specs.declared.directory.EntryRead.{EntryRead}
@@ -38,8 +39,12 @@ entryValue p name value =
     got (record { place = p; name = name; «file_id» = id; «date_added» = date; kind = flags % 16 })
 
 -- the name before the value (fs.rs, `read_dir`)
+-- the entry of a record in the block b
+unfoldable pub entryOf : List ℕ → Place → Answer Entry
+entryOf b p = nameIn (partOf b (p .key)) >>= λ name. entryValue p name (partOf b (p .value))
+
 unfoldable pub entryAt : Reader → List ℕ → Place → Answer Entry
-entryAt r b p = nameIn (keyOf r b p) >>= λ name. entryValue p name (valueOf r b p)
+entryAt r b p = entryOf (blockOf r b (p .block)) p
 
 -- "a name comes back as the part of the image that holds it", "up to the first zero byte"
 unfoldable pub entryName : Reader → List ℕ → Entry → List ℕ

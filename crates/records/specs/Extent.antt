@@ -3,8 +3,9 @@ use Prim.Native.Nat.{ℕ, _%_, _^_}
 use mathlib.Core.List.{List}
 use Rattle.error.specs.Answer.{Answer, got, no, _>>=_}
 use Rattle.bytes.specs.Number.{numberAt}
+use Rattle.bytes.specs.Part.{partOf}
+use Rattle.obj.specs.Block.{blockOf}
 use Rattle.obj.specs.declared.reader.Reader.{Reader}
-use Rattle.btree.specs.Entries.{keyOf, valueOf}
 use Rattle.btree.specs.declared.entries.Place.{Place}
 use Rattle.records.specs.declared.extent.Extent.{Extent}
 use Rattle.records.specs.declared.extent.ExtentRead.{ExtentRead}
@@ -22,5 +23,9 @@ extentIn key value =
     numberAt 8 value 8 >>= λ «phys_block».
     got (record { logical = logical; len = flags % 2 ^ 56; «phys_block» = «phys_block» })
 
+-- the extent of a record in the block b
+unfoldable pub extentOf : List ℕ → Place → Answer Extent
+extentOf b p = extentIn (partOf b (p .key)) (partOf b (p .value))
+
 unfoldable pub extentAt : Reader → List ℕ → Place → Answer Extent
-extentAt r b p = extentIn (keyOf r b p) (valueOf r b p)
+extentAt r b p = extentOf (blockOf r b (p .block)) p

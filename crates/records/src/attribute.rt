@@ -13,7 +13,7 @@ use bytes::u64_at;
 use error::Refusal;
 use obj::Reader;
 ghost use mathlib.Core.Path.{_≡_};
-ghost use Rattle.records.specs.Attribute.{attributeTold, dataTold, streamIn, dataIn, withName, attributeValue, attributeAt, attributeName, attributeBytes};
+ghost use Rattle.records.specs.Attribute.{attributeTold, dataTold, streamIn, dataIn, withName, attributeValue, attributeOf, attributeName, attributeBytes};
 
 // Contents that lie in a data stream.
 pub struct StreamData {
@@ -118,15 +118,11 @@ fn attribute_in(place: Place, key: &[u8], value: &[u8]) -> AttributeRead
     }
 }
 
-// The attribute of a record.
-pub fn attribute_at(reader: Reader, image: &[u8], place: Place) -> AttributeRead
-    ensures { λ r. ⌜ attributeTold r ≡ attributeAt reader (now (image .entry)) place ⌝ }
+// The attribute of a record in the block b.
+pub fn attribute_of(b: &[u8], place: Place) -> AttributeRead
+    ensures { λ r. ⌜ attributeTold r ≡ attributeOf (now (b .entry)) place ⌝ }
 {
-    attribute_in(
-        place,
-        key_of(reader, image, place),
-        value_of(reader, image, place),
-    )
+    attribute_in(place, part(b, place.key), part(b, place.value))
 }
 
 // The bytes of an attribute's name, up to the first zero byte.

@@ -1,7 +1,6 @@
 // A directory entry (`j_drec_key_t` or `j_drec_hashed_key_t`, and `j_drec_val_t`).
 use btree::Place;
 use btree::key_of;
-use btree::value_of;
 use bytes::Number;
 use bytes::Sliced;
 use bytes::Span;
@@ -15,7 +14,7 @@ use obj::Reader;
 ghost use mathlib.Core.Path.{_≡_};
 ghost use Prim.Native.Nat.{_+_};
 ghost use Rattle.bytes.specs.Part.{sliced};
-ghost use Rattle.records.specs.Directory.{entryTold, nameIn, entryValue, entryAt, entryName};
+ghost use Rattle.records.specs.Directory.{entryTold, nameIn, entryValue, entryOf, entryName};
 
 // The name is a part of the record's key.
 pub struct Entry {
@@ -89,12 +88,12 @@ fn value_in(place: Place, name: Span, value: &[u8]) -> EntryRead
     })
 }
 
-// The entry of a record.
-pub fn entry_at(reader: Reader, image: &[u8], place: Place) -> EntryRead
-    ensures { λ r. ⌜ entryTold r ≡ entryAt reader (now (image .entry)) place ⌝ }
+// The entry of a record in the block b.
+pub fn entry_of(b: &[u8], place: Place) -> EntryRead
+    ensures { λ r. ⌜ entryTold r ≡ entryOf (now (b .entry)) place ⌝ }
 {
-    match name_in(key_of(reader, image, place)) {
-        Sliced::Got(name) => value_in(place, name, value_of(reader, image, place)),
+    match name_in(part(b, place.key)) {
+        Sliced::Got(name) => value_in(place, name, part(b, place.value)),
         Sliced::No(e) => EntryRead::No(e),
     }
 }

@@ -1,13 +1,11 @@
 // A file extent (`j_file_extent_key_t` and `j_file_extent_val_t`).
 use btree::Place;
-use btree::key_of;
-use btree::value_of;
 use bytes::Number;
+use bytes::part;
 use bytes::u64_at;
 use error::Refusal;
-use obj::Reader;
 ghost use mathlib.Core.Path.{_≡_};
-ghost use Rattle.records.specs.Extent.{extentTold, extentIn, extentAt};
+ghost use Rattle.records.specs.Extent.{extentTold, extentIn, extentOf};
 
 // `len` bytes of a file from `logical` on, stored from block `phys_block` on; block 0 means a hole.
 pub struct Extent {
@@ -43,9 +41,9 @@ fn extent_in(key: &[u8], value: &[u8]) -> ExtentRead
     })
 }
 
-// The extent of a record.
-pub fn extent_at(reader: Reader, image: &[u8], place: Place) -> ExtentRead
-    ensures { λ r. ⌜ extentTold r ≡ extentAt reader (now (image .entry)) place ⌝ }
+// The extent of a record in the block b.
+pub fn extent_of(b: &[u8], place: Place) -> ExtentRead
+    ensures { λ r. ⌜ extentTold r ≡ extentOf (now (b .entry)) place ⌝ }
 {
-    extent_in(key_of(reader, image, place), value_of(reader, image, place))
+    extent_in(part(b, place.key), part(b, place.value))
 }

@@ -13,6 +13,7 @@ use Rattle.text.specs.Output.{at, refused, put, puts, outputOf}
 use Rattle.text.specs.Words.{pairs}
 use Rattle.text.specs.declared.Position.{Position}
 use Rattle.text.specs.declared.Position.the-variants.{At}
+use Rattle.text.proofs.Loops.{pairs-length}
 use Rattle.text.proofs.Whole.{full}
 use Rattle.text.proofs.Writing.{puts-refused, byte-stopped}
 use Rattle.extents.proofs.Verdicts.{le-or-gt}
@@ -28,11 +29,6 @@ past-room room (x ∷ t) b k h = of (le-or-gt k room)
     of (inr g) =
         let q : refused BufferTooShort ≡ ifLe room k (refused BufferTooShort) (at (set b k x) (k + 1)) = at-most _ _ _ _ _ (omega arith) refl in
         rw (← q) (puts-refused room t BufferTooShort)
-
-pairs-length : (b : List ℕ) → length (pairs b []) ≡ 2 * length b
-unfolding pairs
-pairs-length [] = refl
-pairs-length (x ∷ b) = omega (arith, pairs-length b)
 
 pub zeros-long : (room n k : ℕ) (p : Position) (b : List ℕ) → p ≡ At k → room / 2 < n → refused BufferTooShort ≡ puts room (pairs (replicate n 0) []) (outputOf p b)
 zeros-long room n k p b e h =
