@@ -7,15 +7,18 @@ use mathlib.Core.List.{List, [], _∷_, map}
 use native.Mathlib.Omega.{arith}
 use lib.ListN.{drop}
 use Rattle.error.specs.Answer.{Answer, got, no, _>>=_}
+use Rattle.bytes.specs.Part.{partOf}
+use Rattle.gpt.specs.Part.{onPart}
 use Rattle.volume.specs.Open.{volumeOfImage}
 use Rattle.volume.specs.declared.Volume.{Volume}
 use Rattle.inode_record.specs.declared.inode.Inode.{Inode}
 use Rattle.lists.specs.Lists.{elementAt, inodeOf}
 use Rattle.lines.specs.Shown.{InodeShown, EntryShown, inodeShown}
-use Rattle.lines.specs.Lines.{entryLine}
+use Rattle.lines.specs.Lines.{nodeLine, entryLine}
 use Rattle.demand.specs.View.{View}
-use Rattle.demand.specs.Demand.{inodeAnswer, entriesAnswer, viewOf, viewAt, listingOf, Met, here, nowhere, refused, met, place, placeIn, onward, follow, chain, Agree, past, on, SameVolumes}
+use Rattle.demand.specs.Demand.{inodeAnswer, entriesAnswer, viewOf, viewOfPart, lookupOfPart, viewAt, listingOf, lookupOf, Met, here, nowhere, refused, met, place, placeIn, onward, follow, chain, Agree, past, on, SameVolumes}
 use Rattle.demand.proofs.Inodes.{inode-placed}
+use Rattle.demand.proofs.Parts.{on-part, on-view, opened-part}
 use Rattle.demand.proofs.Demand.{third-demand}
 use Rattle.element_lines.specs.Elements.{entryText, lookupText}
 use Rattle.entry_lines.specs.Entries.{fittingSome, entriesText}
@@ -81,15 +84,18 @@ module _ (image : List ℕ) (v : Volume) (f : InodeShown) where
 abbrev Knows : Answer View → Type 0
 Knows x = (v : View) (c : List ℕ) (f : InodeShown) → x ≡ got v → chain v c ≡ here f → v.inode f.id ≡ got f
 
-knows : (image : List ℕ) (index : ℕ) → Knows (viewAt image index)
-unfolding viewAt
-knows image index v c f e h = of (volumeOfImage image index .answer) e
+knows-part : (part : List ℕ) (index : ℕ) → Knows (viewOfPart part index)
+unfolding viewOfPart
+knows-part part index v c f e h = of (volumeOfImage part index .answer) e
   where
-    of : (a : Answer Volume) → (a >>= λ w. got (viewOf image w)) ≡ got v → v.inode f.id ≡ got f
+    of : (a : Answer Volume) → (a >>= λ w. got (viewOf part w)) ≡ got v → v.inode f.id ≡ got f
     of (got w) k =
-        let q : viewOf image w ≡ v = cc in
-        ap (λ (x : View). x.inode f.id) (sym q) ∙ known-follow image w f (met (inodeAnswer image w 2)) c (known-inode image w f 2) (ap (λ (x : View). chain x c) q ∙ h)
+        let q : viewOf part w ≡ v = cc in
+        ap (λ (x : View). x.inode f.id) (sym q) ∙ known-follow part w f (met (inodeAnswer part w 2)) c (known-inode part w f 2) (ap (λ (x : View). chain x c) q ∙ h)
     of (no w) k = absurd (let z : _≡_ {A = ℕ} 0 1 = cc in omega arith)
+
+knows : (image : List ℕ) (index : ℕ) → Knows (viewAt image index)
+knows image index v c f e h = let s = opened-part image index v e in knows-part (partOf image (s .0)) index v c f (s .1 .1) h
 
 -- the same link
 module _ (c : List ℕ) (f : InodeShown) where
@@ -107,30 +113,46 @@ module _ (c : List ℕ) (f : InodeShown) where
   link-same (no e) (got w) k l s h = absurd s
   link-same (no d) (no e) k l s h = absurd s
 
+-- the same text, by what is the same of two volumes
+module _ (a b : List ℕ) (i j : ℕ) where
+  by-views : (g : View → Answer (List ℕ)) (k : List ℕ → ℕ → Answer (List ℕ)) → ((p : List ℕ) (n : ℕ) → k p n ≡ (viewOfPart p n >>= g)) → (viewAt a i >>= g) ≡ (viewAt b j >>= g)
+      → onPart (λ p. k p i) a ≡ onPart (λ p. k p j) b
+  by-views g k h e = on-view a i g (λ p. k p i) (λ p. h p i) ∙ e ∙ sym (on-view b j g (λ p. k p j) (λ p. h p j))
+
+  by-lookups : (path : List ℕ) → lookupOf a i path ≡ lookupOf b j path → onPart (λ p. lookupText p i path) a ≡ onPart (λ p. lookupText p j path) b
+  unfolding lookupOf
+  by-lookups path e =
+      on-part a (λ p. lookupOfPart p i path) (λ f. got (nodeLine f [])) (λ p. lookupText p i path) (λ p. lookup-view p i path)
+      ∙ ap (λ (x : Answer InodeShown). x >>= λ f. got (nodeLine f [])) e
+      ∙ sym (on-part b (λ p. lookupOfPart p j path) (λ f. got (nodeLine f [])) (λ p. lookupText p j path) (λ p. lookup-view p j path))
+
 -- where two listings are equal, the calls answer alike
 pub record CallsAlike (a b : List ℕ) (i j : ℕ) : Type 0 where
-  pub lookups : (path : List ℕ) → lookupText a i path ≡ lookupText b j path
-  pub reads : (c : List ℕ) (f : InodeShown) → chainOn (viewAt a i) c ≡ here f → (off len : ℕ) → readText a i f.id off len ≡ readText b j f.id off len
-  pub entries : (c : List ℕ) (f : InodeShown) → chainOn (viewAt a i) c ≡ here f → (k : ℕ) → entryText a i f.id k ≡ entryText b j f.id k
-  pub attributes : (c : List ℕ) (f : InodeShown) → chainOn (viewAt a i) c ≡ here f → (k : ℕ) → attributeText a i f.id k ≡ attributeText b j f.id k
-  pub directories : (c : List ℕ) (f : InodeShown) → chainOn (viewAt a i) c ≡ here f → (k room : ℕ) → entriesText a i f.id k room ≡ entriesText b j f.id k room
-  pub bytes : (c : List ℕ) (f : InodeShown) → chainOn (viewAt a i) c ≡ here f → (k : ℕ) → xattrBytes a i f.id k ≡ xattrBytes b j f.id k
-  pub links : (c : List ℕ) (f : InodeShown) → chainOn (viewAt a i) c ≡ here f → linkText a i f.id ≡ linkText b j f.id
+  pub lookups : (path : List ℕ) → onPart (λ p. lookupText p i path) a ≡ onPart (λ p. lookupText p j path) b
+  pub reads : (c : List ℕ) (f : InodeShown) → chainOn (viewAt a i) c ≡ here f → (off len : ℕ)
+      → onPart (λ p. readText p i f.id off len) a ≡ onPart (λ p. readText p j f.id off len) b
+  pub entries : (c : List ℕ) (f : InodeShown) → chainOn (viewAt a i) c ≡ here f → (k : ℕ) → onPart (λ p. entryText p i f.id k) a ≡ onPart (λ p. entryText p j f.id k) b
+  pub attributes : (c : List ℕ) (f : InodeShown) → chainOn (viewAt a i) c ≡ here f → (k : ℕ)
+      → onPart (λ p. attributeText p i f.id k) a ≡ onPart (λ p. attributeText p j f.id k) b
+  pub directories : (c : List ℕ) (f : InodeShown) → chainOn (viewAt a i) c ≡ here f → (k room : ℕ)
+      → onPart (λ p. entriesText p i f.id k room) a ≡ onPart (λ p. entriesText p j f.id k room) b
+  pub bytes : (c : List ℕ) (f : InodeShown) → chainOn (viewAt a i) c ≡ here f → (k : ℕ) → onPart (λ p. xattrBytes p i f.id k) a ≡ onPart (λ p. xattrBytes p j f.id k) b
+  pub links : (c : List ℕ) (f : InodeShown) → chainOn (viewAt a i) c ≡ here f → onPart (λ p. linkText p i f.id) a ≡ onPart (λ p. linkText p j f.id) b
 
 pub calls-alike : (a b : List ℕ) (i j m n : ℕ) (t : List ℕ) → listingOf a i m ≡ got t → listingOf b j n ≡ got t → CallsAlike a b i j
 calls-alike a b i j m n t p q =
     let s : SameVolumes (viewAt a i) (viewAt b j) = third-demand .listings a b i j m n t t p q .0 refl in
     record {
-      lookups = λ path. rw (lookup-view a i path, lookup-view b j path, third-demand .lookups a b i j m n t t p q refl path);
-      reads = λ c f h off len. rw (read-view a i f.id off len, read-view b j f.id off len)
+      lookups = λ path. by-lookups a b i j path (third-demand .lookups a b i j m n t t p q refl path);
+      reads = λ c f h off len. by-views a b i j _ (λ p n. readText p n f.id off len) (λ p n. read-view p n f.id off len)
           (of-same c f (λ v. v.read f.id off len) (λ v w e l r. r off len) (viewAt a i) (viewAt b j) s h);
-      entries = λ c f h k. rw (entry-view a i f.id k, entry-view b j f.id k)
+      entries = λ c f h k. by-views a b i j _ (λ p n. entryText p n f.id k) (λ p n. entry-view p n f.id k)
           (of-same c f (λ v. v.entries f.id >>= λ es. got (entryLineAt (elementAt k es))) (λ v w e l r. rw e) (viewAt a i) (viewAt b j) s h);
-      attributes = λ c f h k. rw (attribute-view a i f.id k, attribute-view b j f.id k)
+      attributes = λ c f h k. by-views a b i j _ (λ p n. attributeText p n f.id k) (λ p n. attribute-view p n f.id k)
           (of-same c f (λ v. v.attributes f.id >>= λ l. attributeLineAt (elementAt k l)) (λ v w e l r. rw l) (viewAt a i) (viewAt b j) s h);
-      directories = λ c f h k room. rw (entries-view a i f.id k room, entries-view b j f.id k room)
+      directories = λ c f h k room. by-views a b i j _ (λ p n. entriesText p n f.id k room) (λ p n. entries-view p n f.id k room)
           (of-same c f (λ v. v.entries f.id >>= λ es. fittingSome room (map (λ e. entryLine e []) (drop k es))) (λ v w e l r. rw e) (viewAt a i) (viewAt b j) s h);
-      bytes = λ c f h k. rw (bytes-view a i f.id k, bytes-view b j f.id k)
+      bytes = λ c f h k. by-views a b i j _ (λ p n. xattrBytes p n f.id k) (λ p n. bytes-view p n f.id k)
           (of-same c f (λ v. v.attributes f.id >>= λ l. attributeBytesAt (elementAt k l)) (λ v w e l r. rw l) (viewAt a i) (viewAt b j) s h);
-      links = λ c f h. rw (link-view a i f.id, link-view b j f.id) (link-same c f (viewAt a i) (viewAt b j) (knows a i) (knows b j) s h);
+      links = λ c f h. by-views a b i j _ (λ p n. linkText p n f.id) (λ p n. link-view p n f.id) (link-same c f (viewAt a i) (viewAt b j) (knows a i) (knows b j) s h);
     }

@@ -1,18 +1,21 @@
 -- What `apfs_open` gives: proof of what specs/Opened.antt says.
-use Prim.Native.Nat.{ℕ, _≤_, _<_}
+use Prim.Native.Nat.{ℕ, _^_, _≤_, _<_}
 use mathlib.Core.Path.{_≡_, refl}
 use mathlib.Core.Logic.{_⊎_, inl, inr, ⊎-elim}
 use mathlib.Core.List.{List, [], _++_}
 use lib.IntN.{pos}
 use lib.ListN.{length, drop}
+use lib.Seq.{take-length}
 use Rattle.error.specs.Answer.{Answer, got, no, _>>=_}
 use Rattle.error.specs.declared.Refusal.the-variants.{Unsupported}
 use Rattle.error.proofs.Laws.{le-cases, eq-cases}
+use Rattle.bytes.specs.Part.{partOf}
+use Rattle.gpt.proofs.Part.{whole, inside-small}
 use Rattle.lookup.specs.Counted.{Counted, after, from}
 use Rattle.lookup.specs.declared.map.Map.{Map}
 use Rattle.omap.specs.Load.{mapAt}
 use Rattle.nx.specs.declared.container.Container.{Container}
-use Rattle.nx.specs.LatestCheckpoint.{blockZero, Latest, openedAs, Opens, at-latest, no-candidate}
+use Rattle.nx.specs.LatestCheckpoint.{blockZero, BlockZeroRead, Latest, openedAs, Opens, at-latest, no-candidate}
 use Rattle.nx.proofs.LatestCheckpoint.{latest-checkpoint}
 use Rattle.calls.specs.Filled.{Filled, filled}
 use Rattle.container_line.specs.Container.{containerHead, containerText, openText}
@@ -65,5 +68,17 @@ module _ (image out : List ℕ) where
   opened (at-latest i l e) = rw e (given i l)
   opened (no-candidate n e) = rw e (said.no-candidate n (refl, refl))
 
+-- at the latest checkpoint of a part
+at-checkpoint : (part out : List ℕ) → length part ≤ 2 ^ 34 → BlockZeroRead part → Given part out (openText part)
+at-checkpoint part out h r = opened part out (latest-checkpoint .opening part h (latest-checkpoint .reading part .1 r))
+
+part-self : (image : List ℕ) → partOf image (record { start = 0; len = length image }) ≡ image
+unfolding partOf
+part-self image = take-length image
+
 pub apfs-opened : ApfsOpened
-apfs-opened = record { call = λ image out h r. opened image out (latest-checkpoint .opening image h (latest-checkpoint .reading image .1 r)) }
+apfs-opened = record {
+  call = λ image out s e r. rw e (at-checkpoint (partOf image s) out (inside-small image s e) r);
+  call-whole = λ image out h r. rw (whole image h (r .first-bytes) (r .magic), part-self image) (at-checkpoint image out h r);
+  no-part = λ image out e h. rw h (refl, refl);
+}

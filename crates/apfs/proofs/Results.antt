@@ -1,26 +1,23 @@
 -- The result of a call, from the position and the buffer that are left.
-use Prim.Native.Nat.{ℕ, _*_, _^_, _<_}
+use Prim.Native.Nat.{ℕ, zero, suc, _*_, _^_, _<_}
 use mathlib.Core.Path.{_≡_, refl, ap, _∙_}
 use mathlib.Core.List.{List}
 use native.Mathlib.Omega.{arith}
 use borrow.Author.Needs.{needs, sfits-of}
 use borrow.Author.Tests.{lt-ltb}
-use lib.IntN.{ℤ, pos}
+use lib.IntN.{ℤ, pos, _-ℤ_}
 use lib.ListN.{length}
 use mir.Syntax.{w64}
 use mir.Val.{SFits, toZ, ofZ}
 use mir.Facts.{toZ-ofZ}
 use Rattle.error.specs.Answer.{Answer, got, no, numberOf}
 use Rattle.error.specs.declared.Refusal.{Refusal}
-use Rattle.error.specs.declared.Refusal.the-variants.{Io, Corrupt, Unsupported, NotFound, PathNotUtf8, BufferTooShort, ImageTooLarge, Overflow, CharacterNotCovered, TooDeep}
+use Rattle.error.specs.declared.Refusal.the-variants.{Io, Corrupt, Unsupported, NotFound, PathNotUtf8, BufferTooShort, ImageTooLarge, Overflow, CharacterNotCovered, TooDeep, NoPartitionTable, NoPartition, NoCheckpoint, TooLong, NotAListing, Contradiction, NoRoom, BadSeed}
 use Rattle.error.proofs.Laws.{le-cases}
 use Rattle.text.specs.declared.Position.{Position}
 use Rattle.text.specs.declared.Position.the-variants.{At, No}
 use Rattle.calls.specs.Filled.{Filled, filled, filledBy, filledAt}
 use Rattle.apfs.specs.Call.{minus, number, resultOf, bufferOf, resultAt, Within}
-
-pub minus-told : (e x : Refusal) (z : ℤ) → e ≡ x → z ≡ minus (numberOf x) → z ≡ minus (numberOf e)
-minus-told e x z q h = rw q h
 
 -- a refusal's number as an i64
 minus-back : (e : Refusal) → toZ w64 (ofZ w64 (minus (numberOf e))) ≡ minus (numberOf e)
@@ -34,6 +31,29 @@ minus-back ImageTooLarge = refl
 minus-back Overflow = refl
 minus-back CharacterNotCovered = refl
 minus-back TooDeep = refl
+minus-back NoPartitionTable = refl
+minus-back NoPartition = refl
+minus-back NoCheckpoint = refl
+minus-back TooLong = refl
+minus-back NotAListing = refl
+minus-back Contradiction = refl
+minus-back NoRoom = refl
+minus-back BadSeed = refl
+
+pub refused-is : (e : Refusal) (z : ℤ) → z ≡ minus (numberOf e) → toZ w64 (ofZ w64 z) ≡ minus (numberOf e)
+refused-is e z h = rw h (minus-back e)
+
+-- minus a number that a byte holds
+module _ (n : ℕ) (h : n < 256) where
+  pub minus-fits : SFits w64 (pos 0 -ℤ toZ w64 n)
+  minus-fits = rw (lt-ltb n (2 ^ 63) (omega arith)) (of n h)
+    where
+      of : (n : ℕ) → n < 256 → SFits w64 (minus n)
+      of zero h = sfits-of (omega arith)
+      of (suc m) h = rw (lt-ltb 0 (suc m) (omega arith)) (sfits-of (omega arith))
+
+  pub minus-is : (e : Refusal) → n ≡ numberOf e → toZ w64 (ofZ w64 (pos 0 -ℤ toZ w64 n)) ≡ minus (numberOf e)
+  minus-is e q = toZ-ofZ {w = w64} minus-fits ∙ rw (lt-ltb n (2 ^ 63) (omega arith), q)
 
 pub result-back : (p : Position) → Within p → toZ w64 (ofZ w64 (resultAt p)) ≡ resultAt p
 result-back (At n) h = toZ-ofZ {w = w64} (sfits-of h)
@@ -47,7 +67,7 @@ module _ (p : Position) where
   count-is n h q = let k : n < 2 ^ 63 = rw q at h in rw (q, lt-ltb n (2 ^ 63) k)
 
   pub refusal-is : (e : Refusal) (x : ℤ) → x ≡ minus (numberOf e) → p ≡ No e → toZ w64 (ofZ w64 x) ≡ resultAt p
-  refusal-is e x h q = rw (q, h) (minus-back e)
+  refusal-is e x h q = rw q (refused-is e x h)
 
 -- the count of a call that answered lies within its buffer
 module _ (a : Answer (List ℕ)) (b x : List ℕ) (r : Position) (p : filledAt r x ≡ filledBy a b) (s : length b * 1 < 2 ^ 63) where
@@ -70,4 +90,6 @@ module _ (a : Answer (List ℕ)) (b x : List ℕ) (r : Position) (p : filledAt r
 
 pub ruleset results = (needs, count-fits, count-is, refusal-is)
 
-pub ruleset ends = (needs, call-within, call-result, call-buffer)
+pub ruleset ends = (needs, refused-is, call-within, call-result, call-buffer)
+
+pub ruleset negated = (needs, minus-fits, minus-is)

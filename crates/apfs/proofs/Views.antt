@@ -1,4 +1,4 @@
--- What a call on a volume answers goes by the volume's view alone.
+-- What a call on a volume answers goes by the volume's view alone. The bytes are those of a container.
 use Prim.Native.Nat.{ℕ, zero, suc}
 use mathlib.Core.Path.{_≡_, refl, ap, _∙_}
 use mathlib.Core.Bool.{Bool, true, false}
@@ -25,9 +25,9 @@ use Rattle.lines.specs.Lines.{nodeLine, entryLine, attributeLine}
 use Rattle.demand.specs.View.{View}
 use Rattle.demand.specs.Listing.{holding}
 use Rattle.demand.specs.Lookup.{lookup}
-use Rattle.demand.specs.Demand.{withContents, inodeAnswer, entriesAnswer, attributesAnswer, readAnswer, viewOf, viewAt, lookupOf}
+use Rattle.demand.specs.Demand.{withContents, inodeAnswer, entriesAnswer, attributesAnswer, readAnswer, viewOf, viewOfPart, lookupOfPart}
 use Rattle.demand.proofs.Counts.{onto-answer, inode-even, entries-even, attributes-even, contents-even, read-even}
-use Rattle.demand.proofs.Lookups.{lookup-shown, lookup-of-view}
+use Rattle.demand.proofs.Lookups.{lookup-shown, lookup-of-part}
 use Rattle.calls.specs.OnVolume.{onVolume}
 use Rattle.element_lines.specs.Elements.{entryShow, entryOn, entryText, lookupOn, lookupText}
 use Rattle.attribute_lines.specs.Attributes.{attributeOf, attributeShow, attributeOn, attributeText}
@@ -187,45 +187,45 @@ module _ (image : List ℕ) (v : Volume) where
 -- each call, by the view
 module _ (image : List ℕ) (index : ℕ) where
   on-view : (f : Volume → ℕ → Counted (List ℕ)) (g : View → Answer (List ℕ)) → ((v : Volume) (s : ℕ) → f v s .answer ≡ g (viewOf image v))
-      → onVolume f image index ≡ (viewAt image index >>= g)
-  unfolding viewAt
+      → onVolume f image index ≡ (viewOfPart image index >>= g)
+  unfolding viewOfPart
   on-view f g h = of (volumeOfImage image index .nodes) (volumeOfImage image index .answer)
     where
       of : (n : ℕ) (a : Answer Volume) → (from n a λ v. f v n) .answer ≡ ((a >>= λ v. got (viewOf image v)) >>= g)
       of n (got v) = h v n
       of n (no e) = refl
 
-  pub read-view : (id off len : ℕ) → readText image index id off len ≡ (viewAt image index >>= λ v. v.read id off len)
+  pub read-view : (id off len : ℕ) → readText image index id off len ≡ (viewOfPart image index >>= λ v. v.read id off len)
   unfolding readText
   read-view id off len = on-view (λ v s. readOn image v id off len s) (λ v. v.read id off len) (λ v s. read-on image v id off len s)
 
-  pub entry-view : (id k : ℕ) → entryText image index id k ≡ (viewAt image index >>= λ v. v.entries id >>= λ es. got (entryLineAt (elementAt k es)))
+  pub entry-view : (id k : ℕ) → entryText image index id k ≡ (viewOfPart image index >>= λ v. v.entries id >>= λ es. got (entryLineAt (elementAt k es)))
   unfolding entryText
   entry-view id k = on-view (λ v s. entryOn image v id k s) (λ v. v.entries id >>= λ es. got (entryLineAt (elementAt k es))) (λ v s. entry-on image v id k s)
 
-  pub attribute-view : (id k : ℕ) → attributeText image index id k ≡ (viewAt image index >>= λ v. v.attributes id >>= λ l. attributeLineAt (elementAt k l))
+  pub attribute-view : (id k : ℕ) → attributeText image index id k ≡ (viewOfPart image index >>= λ v. v.attributes id >>= λ l. attributeLineAt (elementAt k l))
   unfolding attributeText
   attribute-view id k = on-view (λ v s. attributeOn image v id k s) (λ v. v.attributes id >>= λ l. attributeLineAt (elementAt k l)) (λ v s. attribute-on image v id k s)
 
-  pub lookup-view : (path : List ℕ) → lookupText image index path ≡ (lookupOf image index path >>= λ f. got (nodeLine f []))
+  pub lookup-view : (path : List ℕ) → lookupText image index path ≡ (lookupOfPart image index path >>= λ f. got (nodeLine f []))
   unfolding lookupText
   lookup-view path =
       on-view (λ v s. lookupOn image v path s) (λ v. lookup v path >>= λ f. got (nodeLine f [])) (λ v s. lookup-on image v path s)
-      ∙ rw (lookup-of-view image index path) (of (viewAt image index))
+      ∙ rw (lookup-of-part image index path) (of (viewOfPart image index))
     where
       of : (a : Answer View) → (a >>= λ v. lookup v path >>= λ f. got (nodeLine f [])) ≡ ((a >>= λ v. lookup v path) >>= λ f. got (nodeLine f []))
       of (got v) = refl
       of (no e) = refl
 
-  pub entries-view : (id k room : ℕ) → entriesText image index id k room ≡ (viewAt image index >>= λ v. v.entries id >>= λ es. fittingSome room (map (λ e. entryLine e []) (drop k es)))
+  pub entries-view : (id k room : ℕ) → entriesText image index id k room ≡ (viewOfPart image index >>= λ v. v.entries id >>= λ es. fittingSome room (map (λ e. entryLine e []) (drop k es)))
   unfolding entriesText
   entries-view id k room =
       on-view (λ v s. entriesOn image v id k room s) (λ v. v.entries id >>= λ es. fittingSome room (map (λ e. entryLine e []) (drop k es))) (λ v s. entries-on image v id k room s)
 
-  pub bytes-view : (id k : ℕ) → xattrBytes image index id k ≡ (viewAt image index >>= λ v. v.attributes id >>= λ l. attributeBytesAt (elementAt k l))
+  pub bytes-view : (id k : ℕ) → xattrBytes image index id k ≡ (viewOfPart image index >>= λ v. v.attributes id >>= λ l. attributeBytesAt (elementAt k l))
   unfolding xattrBytes
   bytes-view id k = on-view (λ v s. xattrOn image v id k s) (λ v. v.attributes id >>= λ l. attributeBytesAt (elementAt k l)) (λ v s. bytes-on image v id k s)
 
-  pub link-view : (id : ℕ) → linkText image index id ≡ (viewAt image index >>= λ v. linkShown v id)
+  pub link-view : (id : ℕ) → linkText image index id ≡ (viewOfPart image index >>= λ v. linkShown v id)
   unfolding linkText
   link-view id = on-view (λ v s. linkOn image v id s) (λ v. linkShown v id) (λ v s. link-on image v id s)

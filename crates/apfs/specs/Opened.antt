@@ -1,11 +1,13 @@
--- THE CHECKPOINT at the exported call: what `apfs_open` gives. Document 01, "Opening, in order". It is proved, as `apfs-opened`, in proofs/Opened.antt.
+-- THE CHECKPOINT at the exported call: what `apfs_open` gives. Document 01, "Opening, in order", and document 02,
+-- request 01. It is proved, as `apfs-opened`, in proofs/Opened.antt.
 --
--- Of every image of at most 2^34 bytes whose block 0 is read and whose descriptor area lies in the image, and of every buffer: either some block of the
--- ring is the latest, and the call gives the line of the container at that checkpoint, or the refusal of version 1, of Fusion, of the object map or of a
--- buffer that is too short; or no block of the ring is a candidate, and the call gives -2. A refusal leaves the buffer as it was.
+-- Of every image and the part of it that a container is in, where the part's block 0 is read and its descriptor area lies in it, and of every buffer: either some block of the ring is the latest, and the call gives the line of the container at that checkpoint, or the refusal of
+-- version 1, of Fusion, of the object map or of a buffer that is too short; or no block of the ring is a candidate, and the call gives -2. A refusal
+-- leaves the buffer as it was. An image of at most 2^34 bytes whose block 0 is so read is its own part; and where no part is found, the call gives minus
+-- the number of that refusal.
 --
--- `Latest`, `Candidate` and `BlockZeroRead` stand in nx, specs/LatestCheckpoint.antt. By its contract (src/lib.rt) `apfs_open(image, out)` gives
--- `resultOf (openText image) out` and leaves `bufferOf (openText image) out`.
+-- `Latest`, `Candidate` and `BlockZeroRead` stand in nx, specs/LatestCheckpoint.antt, `partOfImage` in gpt, specs/Part.antt. By its contract (src/lib.rt)
+-- `apfs_open(image, out)` gives `resultOf (onPart openText image) out` and leaves `bufferOf (onPart openText image) out`.
 use Prim.Native.Nat.{ℕ, _/_, _%_, _^_, _≤_, _<_}
 use mathlib.Core.Path.{_≡_}
 use mathlib.Core.Logic.{_⊎_}
@@ -14,6 +16,9 @@ use lib.IntN.{ℤ, pos}
 use lib.ListN.{length, drop}
 use Rattle.error.specs.Answer.{Answer, got, no, numberOf}
 use Rattle.error.specs.declared.Refusal.{Refusal}
+use Rattle.bytes.specs.Part.{partOf}
+use Rattle.bytes.specs.declared.Span.{Span}
+use Rattle.gpt.specs.Part.{partOfImage, onPart}
 use Rattle.text.specs.Words.{ascii, digits, words}
 use Rattle.lookup.specs.declared.map.Map.{Map}
 use Rattle.omap.specs.Load.{mapAt}
@@ -63,5 +68,10 @@ pub data Gives (image out : List ℕ) (result : ℤ) (buffer : List ℕ) : Type 
   no-candidate : ((i : ℕ) → Candidate image (blockZero image) i → ⊥) → Refused out result buffer 2 → Gives image out result buffer
 
 pub record ApfsOpened : Type 0 where
-  pub call : (image out : List ℕ) → length image ≤ 2 ^ 34 → BlockZeroRead image
-      → Gives image out (resultOf (openText image) out) (bufferOf (openText image) out)
+  pub call : (image out : List ℕ) (s : Span) → partOfImage image ≡ got s → BlockZeroRead (partOf image s)
+      → Gives (partOf image s) out (resultOf (onPart openText image) out) (bufferOf (onPart openText image) out)
+  -- an image with NXSB at byte 32
+  pub call-whole : (image out : List ℕ) → length image ≤ 2 ^ 34 → BlockZeroRead image
+      → Gives image out (resultOf (onPart openText image) out) (bufferOf (onPart openText image) out)
+  pub no-part : (image out : List ℕ) (e : Refusal) → partOfImage image ≡ no e
+      → Refused out (resultOf (onPart openText image) out) (bufferOf (onPart openText image) out) (numberOf e)

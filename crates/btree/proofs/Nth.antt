@@ -27,6 +27,10 @@ use Rattle.btree.specs.declared.skip.Passed.{Passed}
 use Rattle.btree.proofs.Leaves.{in-bound}
 use Rattle.btree.proofs.Turns.{leaf-passed, leaf-end, leaf-at, leaf-no, each-over, each-stop, each-into, each-no, node-leaf, node-index, child-lowest, child-off, child-on, root-low, root-high}
 
+-- a refusal at the root
+pub found-no : (p : Pass) (e : Refusal) → p ≡ No e → Found.No e ≡ foundOf p
+found-no p e h = rw h
+
 pub nth-end : (n s : ℕ) → after s (got none) ≡ nth n (end s)
 unfolding nth
 nth-end zero s = refl

@@ -12,8 +12,9 @@ use Rattle.error.proofs.Laws.{same, other}
 use Rattle.arith.specs.Checked.{ticked}
 use Rattle.node.specs.Node.{leafBit}
 use Rattle.node.specs.declared.layout.Node.{Node}
+use Rattle.node.specs.declared.layout.Parsed.{Parsed}
 use Rattle.btree.specs.Scan.{Run, more, end, refused, Tail, scanOf}
-use Rattle.btree.specs.Inner.{leafFrom, inNode, inThen, each, turnThen, Reaches, node, child, walk}
+use Rattle.btree.specs.Inner.{leafFrom, inNode, inThen, each, turnOf, turnThen, Reaches, node, child, walk}
 use Rattle.btree.specs.declared.entries.Search.{Search}
 use Rattle.btree.specs.declared.entries.Place.{Place}
 use Rattle.btree.specs.declared.leaf.InLeaf.{InLeaf}
@@ -56,6 +57,10 @@ module _ (f : Node → Tail → Tail) (b : List ℕ) (q : Search) (m : Node) (i 
 
   pub each-no : (w : Refusal) → r .turn ≡ turn.No w → refused w (r .nodes) ≡ whole
   each-no w e = rw e at turns-to
+
+-- a child that is not read
+pub turn-no : (n : Parsed) (e : Refusal) → n ≡ Parsed.No e → turn.No e ≡ turnOf n
+turn-no n e h = rw h
 
 -- a node, by its flag
 module _ (f : Node → Tail → Tail) (b : List ℕ) (q : Search) (m : Node) (i : ℕ) (k : Tail) where

@@ -10,7 +10,8 @@ use Rattle.error.specs.Answer.{ifLe, ifEq}
 use Rattle.error.proofs.Laws.{at-most, above, other}
 use Rattle.bytes.specs.Number.{little}
 use Rattle.checksum.specs.Fletcher.{wordsAt, wordsOf, sum, running, s1, s2, checksum, valid}
-use Rattle.name_hash.specs.Hash.{crc, foldAll, utf32, nameHash, nameLenAndHash}
+use Rattle.crc.specs.Crc.{crc}
+use Rattle.name_hash.specs.Hash.{foldAll, utf32, nameHash, nameLenAndHash}
 use Rattle.node.specs.Node.{laidOut}
 use Rattle.geometry.specs.BlockZero.{sizeOk}
 use Rattle.paths.proofs.Root.{lookup-empty, lookup-slashes}

@@ -35,18 +35,7 @@ fn made(r: Record, image: &[u8], path: &[u8], out: &mut [u8]) -> i64 {
 }
 
 fn minus(refusal: u8) -> i64 {
-    match refusal {
-        1 => -1,
-        2 => -2,
-        3 => -3,
-        4 => -4,
-        5 => -5,
-        6 => -6,
-        7 => -7,
-        8 => -8,
-        9 => -9,
-        _ => -10,
-    }
+    -(refusal as i64)
 }
 
 fn wanted(r: Record) -> i64 {

@@ -14,7 +14,7 @@ fn one_more(n: u64) -> u64 {
     if n < 18446744073709551615 { n + 1 } else { n }
 }
 
-// Eleven counts an export: answered, then refused with 1 to 10.
+// Nineteen counts an export: answered, then refused with 1 to 18.
 fn kind_of(op: u8, refusal: u8) -> usize {
     if op < 3 {
         return 0;
@@ -22,13 +22,13 @@ fn kind_of(op: u8, refusal: u8) -> usize {
     if 10 < op {
         return 0;
     }
-    if 10 < refusal {
+    if 18 < refusal {
         return 0;
     }
-    (op - 3) as usize * 11 + refusal as usize
+    (op - 3) as usize * 19 + refusal as usize
 }
 
-pub fn counted(t: Tally, r: Record, same: bool, kinds: &mut [u64; 88]) -> Tally {
+pub fn counted(t: Tally, r: Record, same: bool, kinds: &mut [u64; 152]) -> Tally {
     if !same {
         return Tally {
             titled: t.titled,
@@ -38,7 +38,7 @@ pub fn counted(t: Tally, r: Record, same: bool, kinds: &mut [u64; 88]) -> Tally 
         };
     }
     let k = kind_of(r.op, r.refusal);
-    if k < 88 {
+    if k < 152 {
         kinds[k] = one_more(kinds[k]);
     }
     Tally {
@@ -94,12 +94,12 @@ fn print_kind(op: usize, refusal: usize, n: u64) {
     io::print_decimal(1, refusal as u64);
 }
 
-pub fn print_kinds(kinds: &[u64; 88]) {
+pub fn print_kinds(kinds: &[u64; 152]) {
     let mut k = 0;
-    while k < 88 {
-        print_kind(k / 11, k % 11, kinds[k]);
+    while k < 152 {
+        print_kind(k / 19, k % 19, kinds[k]);
         k += 1;
-        if k % 11 == 0 {
+        if k % 19 == 0 {
             io::write_all(1, b"\n");
         }
     }

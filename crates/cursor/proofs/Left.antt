@@ -179,6 +179,10 @@ module _ (f : Node → Tail → Tail) (b : List ℕ) (q : Search) (m : Node) (i 
   pub into-kept : (j : Tail) → Final (s .found) → Makes b q s j whole
   into-kept j h = kept b q s _ whole came j h
 
+-- a part that is refused, in the whole
+pub in-whole-no : (x : InPart) (e : Refusal) → x ≡ No e → Reached.No e ≡ inWhole x
+in-whole-no x e h = rw h
+
 -- a step of the whole tree
 pub whole-run : (b : List ℕ) (q : Search) (r : PartStep) (t : Step) (whole : Run) →
     t ≡ record { reached = inWhole (r .found); from = r .from; level = r .level; path = r .path; nodes = r .nodes } → Makes b q r end whole → Begins b q t whole

@@ -7,20 +7,22 @@ use mathlib.Core.List.{List, [], _∷_, map}
 use native.Mathlib.Omega.{arith}
 use Rattle.error.specs.Answer.{Answer, got, _>>=_}
 use Rattle.error.proofs.Laws.{bound}
+use Rattle.bytes.specs.Part.{partOf}
 use Rattle.volume.specs.Open.{volumeOfImage}
 use Rattle.volume.specs.declared.Volume.{Volume}
 use Rattle.lines.specs.Shown.{InodeShown, AttributeShown, Contents, packed, plain}
 use Rattle.demand.specs.View.{View}
 use Rattle.demand.specs.Listing.{isPacked, listing}
 use Rattle.demand.specs.Lookup.{lookup}
-use Rattle.demand.specs.Demand.{Bytes, viewOf, viewAt, listingOf, lookupOf, Met, chain, Answered, AllAnswered, Unrefused, past-end, at-inode, Lister, DemandOn, ThirdDemand}
+use Rattle.demand.specs.Demand.{Bytes, viewOf, viewOfPart, viewAt, listingOf, lookupOf, Met, chain, Answered, AllAnswered, Unrefused, past-end, at-inode, Lister, DemandOn, ThirdDemand}
 use Rattle.demand.proofs.Shows.{heard, ShowsContents, listing-done}
 use Rattle.demand.proofs.Walks.{Reads, Ends, ends-past, ends-on, ends}
 use Rattle.demand.proofs.Views.{listings-same, lookups-same}
 use Rattle.demand.proofs.Callable.{Short, listings-same-to}
-use Rattle.demand.proofs.Inodes.{got-same}
+use Rattle.demand.proofs.Inodes.{got-same, part-bytes}
 use Rattle.demand.proofs.Reading.{volume-reads, volume-short}
-use Rattle.demand.proofs.Lookups.{lookup-of-view, opened-small}
+use Rattle.demand.proofs.Lookups.{opened-small}
+use Rattle.demand.proofs.Parts.{listing-of-view, lookup-of-view, opened-part}
 
 -- what is known where a listing was not refused: the volume was opened, and the listing is that of its view
 record Listed (view : List ℕ → ℕ → Answer View) (image : List ℕ) (index room : ℕ) (t : List ℕ) : Type 0 where
@@ -75,22 +77,24 @@ module _ (view : List ℕ → ℕ → Answer View) (find : List ℕ → ℕ → 
     unrefused = λ a i m t p c. let x = listed a i m t p in rw (x .opened) (no-refusal (x .it) m t (x .lists) c);
   }
 
-module _ (image : List ℕ) (index : ℕ) (v : View) (h : viewAt image index ≡ got v) where
-  opened-volume : (w : Volume) × ((volumeOfImage image index .answer ≡ got w) × (viewOf image w ≡ v))
-  unfolding viewAt
+-- of a part
+module _ (part : List ℕ) (index : ℕ) (v : View) (h : viewOfPart part index ≡ got v) where
+  opened-volume : (w : Volume) × ((volumeOfImage part index .answer ≡ got w) × (viewOf part w ≡ v))
+  unfolding viewOfPart
   opened-volume =
-      let b = bound (volumeOfImage image index .answer) (λ w. got (viewOf image w)) v h in
+      let b = bound (volumeOfImage part index .answer) (λ w. got (viewOf part w)) v h in
       (b .0, (b .1 .0, got-same _ v (b .1 .1)))
 
   opened-reads : Reads v
   opened-reads =
       let b = opened-volume in
-      let small = opened-small image index (b .0) (b .1 .0) in
-      subst Reads (b .1 .1) (volume-reads image (b .0) (omega arith))
+      let small = opened-small part index (b .0) (b .1 .0) in
+      subst Reads (b .1 .1) (volume-reads part (b .0) (omega arith))
 
-  opened-short : Bytes image → Short (2 ^ 64 - 1) v
-  opened-short k = let b = opened-volume in subst (Short (2 ^ 64 - 1)) (b .1 .1) (volume-short image (b .0) k)
+  opened-short : Bytes part → Short (2 ^ 64 - 1) v
+  opened-short k = let b = opened-volume in subst (Short (2 ^ 64 - 1)) (b .1 .1) (volume-short part (b .0) k)
 
 pub third-demand : ThirdDemand
-unfolding listingOf
-third-demand = demand-met viewAt lookupOf listingOf (λ image index room. refl) lookup-of-view opened-reads opened-short
+third-demand = demand-met viewAt lookupOf listingOf listing-of-view lookup-of-view
+    (λ image index v h. let s = opened-part image index v h in opened-reads (partOf image (s .0)) index v (s .1 .1))
+    (λ image index v h k. let s = opened-part image index v h in opened-short (partOf image (s .0)) index v (s .1 .1) (part-bytes image (s .0) k))

@@ -67,7 +67,7 @@ inode-placed b v id s x h = of (nth 0 (scanOf b (searchOf v id 3) s) .nodes) (nt
 
 -- ---- sizes
 
-part-bytes : (b : List ℕ) (s : Span) → Bytes b → Bytes (partOf b s)
+pub part-bytes : (b : List ℕ) (s : Span) → Bytes b → Bytes (partOf b s)
 unfolding partOf
 part-bytes b s h i = of (le-or-gt (s .len) i)
   where

@@ -11,6 +11,7 @@ pub mod Calls
 pub mod Inodes
 pub mod Reading
 pub mod Lookups
+pub mod Parts
 pub mod Demand
 pub mod Edges
 pub mod Examples

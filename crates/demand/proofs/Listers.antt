@@ -14,11 +14,12 @@ use Rattle.lines.specs.Lines.{volumeLine, nodeLine, contentsLine, entryLine, cl
 use Rattle.demand.specs.Trace.{Trace, says, _then_, reading, within}
 use Rattle.demand.specs.View.{View}
 use Rattle.demand.specs.Listing.{attributeLines, dataLine, entryForms, nodeForm, trace, listing}
-use Rattle.demand.specs.Demand.{listingOf, here, place, onward, follow, Agree, past, on, Same, DemandOn}
+use Rattle.demand.specs.Demand.{here, place, onward, follow, Agree, past, on, Same, DemandOn}
 use Rattle.demand.specs.Listers.{writing, ours, fixedText, rootAlone, imageItself, smallInode, smallFile, smallView, smallAt, smallFind, ShutOut, WrongListers}
 use Rattle.demand.proofs.Walks.{Reads}
 use Rattle.demand.proofs.Callable.{Short}
 use Rattle.demand.proofs.Inodes.{got-same}
+use Rattle.demand.proofs.Parts.{listing-of-view}
 use Rattle.demand.proofs.Demand.{demand-met}
 use Rattle.demand.proofs.Edges.{unpacked}
 
@@ -99,7 +100,7 @@ unfolding rootAlone attributeLines dataLine entryForms reading _then_ volumeLine
 root-written b = refl
 
 pub wrong-listers : WrongListers
-unfolding writing listingOf listing
+unfolding writing listing
 wrong-listers =
     let shut = shut-out smallAt smallFind in
     record {
@@ -108,5 +109,5 @@ wrong-listers =
       deeper-blank = shut .deeper-blank (0 ∷ []) (1 ∷ []) 0 0 (smallView 0) (smallView 1) refl refl small-differ _ (root-written 0) (root-written 1);
       image-copied = shut .image-copied (0 ∷ 0 ∷ []) (0 ∷ 1 ∷ []) 0 0 (smallView 0) (smallView 0) refl refl small-same (λ e. let z : _≡_ {A = ℕ} 0 1 = cc in omega arith);
       anywhere = shut-out;
-      ours-lists = λ image index room. refl;
+      ours-lists = λ image index room. sym (listing-of-view image index room);
     }

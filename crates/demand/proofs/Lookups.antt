@@ -24,7 +24,7 @@ use Rattle.paths.specs.Lookup.{nameRead, lookupPath}
 use Rattle.paths.proofs.Answers.{find-map, walkAnswers, lookup-answers}
 use Rattle.lines.specs.Shown.{InodeShown, inodeShown, entryShown}
 use Rattle.demand.specs.Lookup.{entryLabel, descend, lookup}
-use Rattle.demand.specs.Demand.{inodeAnswer, entriesAnswer, viewOf, viewAt, lookupOf}
+use Rattle.demand.specs.Demand.{inodeAnswer, entriesAnswer, viewOf, viewOfPart, lookupOfPart}
 use Rattle.demand.proofs.Counts.{inode-even, entries-even}
 
 module _ (image : List ℕ) (v : Volume) where
@@ -82,10 +82,10 @@ module _ (image : List ℕ) (v : Volume) where
   answer-shown n (got i) = refl
   answer-shown n (no w) = refl
 
--- on an image: what the call's contract says is the lookup on the view
-pub lookup-of-view : (image : List ℕ) (index : ℕ) (path : List ℕ) → lookupOf image index path ≡ (viewAt image index >>= λ v. lookup v path)
-unfolding lookupOf viewAt
-lookup-of-view image index path = of (volumeOfImage image index .nodes) (volumeOfImage image index .answer)
+-- on a container: what the call's contract says is the lookup on the view
+pub lookup-of-part : (image : List ℕ) (index : ℕ) (path : List ℕ) → lookupOfPart image index path ≡ (viewOfPart image index >>= λ v. lookup v path)
+unfolding lookupOfPart viewOfPart
+lookup-of-part image index path = of (volumeOfImage image index .nodes) (volumeOfImage image index .answer)
   where
     of : (n : ℕ) (a : Answer Volume) → (onto (after n a) λ v s. onto (lookupPath image v path s) λ i t. after t (got (inodeShown (v .reader) image i))) .answer
         ≡ ((a >>= λ v. got (viewOf image v)) >>= λ v. lookup v path)

@@ -10,9 +10,10 @@
 -- That is said of any lister (`DemandOn`), and of ours (`ThirdDemand`); which listers it shuts out stands in Listers.antt.
 --
 -- Of which calls: opening (`volumeOfImage`), `inode`, `read_dir`, `xattrs`, `read_xattr`, `read_at` and `lookup_path` by the definitions that their
--- contracts cite (`inodeOf`, `entriesOf`, `attributesOf`, `contentsOf`, `readFile`, `lookupPath`), and the listing by `listingOf`. Names and the label are
--- lossily read; places in the image and node counts are left out, and no answer depends on a count (proofs/Counts.antt). What that gives for the texts
--- of `apfs_lookup`, `apfs_read`, `apfs_entry`, `apfs_entries`, `apfs_xattr`, `apfs_xattr_bytes` and `apfs_link` stands in apfs, proofs/Alike.antt.
+-- contracts cite (`inodeOf`, `entriesOf`, `attributesOf`, `contentsOf`, `readFile`, `lookupPath`), and the listing by `listingOf`; each of the part of the
+-- image that a container is in (`onPart`, in gpt: document 02, request 01). Names and the label are lossily read; places in the image and node counts are
+-- left out, and no answer depends on a count (proofs/Counts.antt). What that gives for the texts of `apfs_lookup`, `apfs_read`, `apfs_entry`,
+-- `apfs_entries`, `apfs_xattr`, `apfs_xattr_bytes` and `apfs_link` stands in apfs, proofs/Alike.antt.
 --
 -- What is assumed: nothing. An image is any list of numbers; 2 says of the two that they are lists of bytes, numbers below 256, as every slice of
 -- bytes is, for only then is no file longer than 2^64 − 1.
@@ -24,6 +25,7 @@ use mathlib.Core.List.{List, [], _∷_, map}
 use lib.ListN.{getD}
 use Rattle.error.specs.Answer.{Answer, got, no, _>>=_}
 use Rattle.error.specs.declared.Refusal.{Refusal}
+use Rattle.gpt.specs.Part.{onPart}
 use Rattle.utf8.specs.Text.{lossy}
 use Rattle.lookup.specs.Counted.{after, onto}
 use Rattle.volume.specs.Open.{volumeOfImage}
@@ -84,18 +86,31 @@ viewOf image v = record {
 abbrev pub Bytes : List ℕ → Type 0
 Bytes image = (i : ℕ) → getD image i 0 < 256
 
--- the volume at an index of an image
-unfoldable pub viewAt : List ℕ → ℕ → Answer View
-viewAt image index = volumeOfImage image index .answer >>= λ v. got (viewOf image v)
+-- ---- of the bytes of a container
+
+-- the volume at an index
+unfoldable pub viewOfPart : List ℕ → ℕ → Answer View
+viewOfPart part index = volumeOfImage part index .answer >>= λ v. got (viewOf part v)
 
 -- its listing into a buffer of `room` bytes: "answered for a volume opened from an image, whatever the buffer's length"
-unfoldable pub listingOf : List ℕ → ℕ → ℕ → Answer (List ℕ)
-listingOf image index room = viewAt image index >>= λ v. listing v room
+unfoldable pub listingOfPart : List ℕ → ℕ → ℕ → Answer (List ℕ)
+listingOfPart part index room = viewOfPart part index >>= λ v. listing v room
 
 -- fs.rs, `lookup_path`: "A lookup goes by its whole answer, less what is left out of the comparison"
+unfoldable pub lookupOfPart : List ℕ → ℕ → List ℕ → Answer InodeShown
+lookupOfPart part index path =
+    onto (volumeOfImage part index) (λ v s. onto (lookupPath part v path s) λ i t. after t (got (inodeShown (v .reader) part i))) .answer
+
+-- ---- of an image. Document 02, request 01: "Everything after reads that part as its whole image"
+
+unfoldable pub viewAt : List ℕ → ℕ → Answer View
+viewAt image index = onPart (λ p. viewOfPart p index) image
+
+unfoldable pub listingOf : List ℕ → ℕ → ℕ → Answer (List ℕ)
+listingOf image index room = onPart (λ p. listingOfPart p index room) image
+
 unfoldable pub lookupOf : List ℕ → ℕ → List ℕ → Answer InodeShown
-lookupOf image index path =
-    onto (volumeOfImage image index) (λ v s. onto (lookupPath image v path s) λ i t. after t (got (inodeShown (v .reader) image i))) .answer
+lookupOf image index path = onPart (λ p. lookupOfPart p index path) image
 
 -- ---- when two volumes answer the same
 

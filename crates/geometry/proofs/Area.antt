@@ -2,9 +2,7 @@
 use Prim.Native.Nat.{ℕ, _+_, _*_, _^_, _≤_, _<_}
 use mathlib.Core.Path.{_≡_, refl, sym, ap, _∙_}
 use Rattle.error.proofs.Laws.{le-cases}
-use native.Mathlib.Nat.{mul-le-mul-left, mul-lt-mul-of-pos-right, lt-of-le-of-lt}
 use native.Mathlib.Omega.{arith}
-use lib.Dec.{lit<}
 use Rattle.error.specs.Answer.{Answer, got, no, _>>=_}
 use Rattle.error.specs.declared.Refusal.{Refusal}
 use Rattle.error.specs.declared.Refusal.the-variants.{Io}
@@ -15,10 +13,6 @@ use Rattle.bytes.specs.declared.Span.{Span}
 use Rattle.arith.specs.Checked.{productOf}
 use Rattle.geometry.specs.BlockZero.{areaAt}
 use Rattle.geometry.specs.declared.Geometry.{Geometry}
-
--- the product of two 32-bit numbers
-pub wide-product : (a b : ℕ) → a < 2 ^ 32 → b < 2 ^ 32 → a * b < 2 ^ 64
-wide-product a b p q = lt-of-le-of-lt (mul-le-mul-left a (omega arith)) (mul-lt-mul-of-pos-right {k = 2 ^ 32} p (lit< tt))
 
 -- a span that was got ends within the bytes
 span-ends : (e : Refusal) (size off len : ℕ) (s : Span) → spanAt e size off len ≡ got s → off + len ≤ size

@@ -1,4 +1,4 @@
--- How a header's and a piece's answer is passed on.
+-- How a number's, a span's, a header's and a piece's answer is passed on.
 use Prim.Native.Nat.{ℕ, _+_, _*_, _^_, _<_}
 use mathlib.Core.Path.{_≡_, sym, ap, _∙_}
 use mathlib.Core.List.{List}
@@ -9,6 +9,10 @@ use mir.Syntax.{w64}
 use mir.Val.{Fits}
 use Rattle.error.specs.Answer.{Answer, numberOf}
 use Rattle.error.specs.declared.Refusal.{Refusal}
+use Rattle.bytes.specs.Number.{told}
+use Rattle.bytes.specs.Part.{sliced}
+use Rattle.bytes.specs.declared.Number.{Number}
+use Rattle.bytes.specs.declared.Sliced.{Sliced}
 use Rattle.obj.specs.Header.{parsed}
 use Rattle.obj.specs.declared.header.ObjHeader.{ObjHeader}
 use Rattle.obj.specs.declared.header.Parsed.{Parsed}
@@ -18,6 +22,12 @@ use Rattle.utf8.specs.declared.Piece.{Piece}
 use Rattle.utf8.specs.declared.Piece.the-variants.{IllFormed}
 use Rattle.utf8.proofs.Pieces.{size-within}
 use Rattle.leaves.specs.Leaves.{refusalIn, headerField, fieldOf, pieceNumber}
+
+pub number-refused : (n : Number) (e : Refusal) (z : ℕ) → n ≡ Number.No e → z ≡ numberOf e → z ≡ refusalIn (told n)
+number-refused n e z q k = rw q k
+
+pub span-refused : (s : Sliced) (e : Refusal) (z : ℕ) → s ≡ Sliced.No e → z ≡ numberOf e → z ≡ refusalIn (sliced s)
+span-refused s e z q k = rw q k
 
 module _ (r : Parsed) (a : Answer ObjHeader) (p : parsed r ≡ a) where
   pub header-taken : (h : ObjHeader) → r ≡ Got h → 0 ≡ refusalIn a
@@ -41,4 +51,4 @@ piece-fits b r n p q h =
 pub piece-shown : (b : List ℕ) (r x : Piece) (z : ℕ) → r ≡ pieceOf b → r ≡ x → z ≡ pieceNumber x → z ≡ pieceNumber (pieceOf b)
 piece-shown b r x z p q h = rw (← p, q) h
 
-pub ruleset all = (needs, header-taken, header-refused, header-field, header-none, piece-fits, piece-shown)
+pub ruleset all = (needs, number-refused, span-refused, header-taken, header-refused, header-field, header-none, piece-fits, piece-shown)

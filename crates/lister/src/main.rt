@@ -1,8 +1,10 @@
 // The lister: an image of at most 65,536 bytes on standard input, the listing of its volume 0 on standard output. Document 01, "The listing (added)".
+use bytes::Sliced;
 use bytes::Span;
 use bytes::part;
 use error::Refusal;
 use error::number_of;
+use gpt::part_of_image;
 use listing::list_text;
 use text::Position;
 
@@ -28,7 +30,13 @@ fn main() {
         print_refusal(Refusal::ImageTooLarge);
         return;
     }
+    let stick = &image[..n];
     let mut out = [0u8; 65536];
-    let p = list_text(&image[..n], 0, &mut out);
-    print_listing(p, &out);
+    match part_of_image(stick) {
+        Sliced::Got(s) => {
+            let p = list_text(part(stick, s), 0, &mut out);
+            print_listing(p, &out);
+        }
+        Sliced::No(e) => print_refusal(e),
+    }
 }

@@ -29,7 +29,7 @@ use Rattle.lines.specs.Lines.{volumeLine, close}
 use Rattle.calls.specs.Filled.{Filled, filledAt}
 use Rattle.demand.specs.Trace.{End, done, stop, Trace, says, within}
 use Rattle.demand.specs.Listing.{levels, nodeForm, trace, listing}
-use Rattle.demand.specs.Demand.{viewOf, viewAt, labelShown, listingOf}
+use Rattle.demand.specs.Demand.{viewOf, viewOfPart, labelShown, listingOfPart}
 use Rattle.forms.specs.Inner.{ending, run}
 use Rattle.forms.proofs.Running.{run-says, run-then}
 use Rattle.listing.specs.Listed.{listedOf}
@@ -103,14 +103,14 @@ module _ (image : List ℕ) (index n : ℕ) (out : List ℕ) (r : VolumeOpened) 
   abbrev by : Answer Volume → Answer (List ℕ)
   by a = a >>= (λ v. got (viewOf image v)) >>= λ w. listing w n
 
-  opened : (x : VolumeOpening) → r .volume ≡ x → listedOf (by (openTold (record { volume = x; nodes = r .nodes }) .answer)) out ≡ listedOf (listingOf image index n) out
-  unfolding listingOf viewAt
+  opened : (x : VolumeOpening) → r .volume ≡ x → listedOf (by (openTold (record { volume = x; nodes = r .nodes }) .answer)) out ≡ listedOf (listingOfPart image index n) out
+  unfolding listingOfPart viewOfPart
   opened x q = ap (λ (y : VolumeOpening). listedOf (by (openTold (record { volume = y; nodes = r .nodes }) .answer)) out) (sym q) ∙ ap (λ (c : Counted Volume). listedOf (by (c .answer)) out) p
 
-  pub list-opened : (v : Volume) (z : Filled) → r .volume ≡ VolumeOpening.Got v → z ≡ listedOf (listing (viewOf image v) n) out → z ≡ listedOf (listingOf image index n) out
+  pub list-opened : (v : Volume) (z : Filled) → r .volume ≡ VolumeOpening.Got v → z ≡ listedOf (listing (viewOf image v) n) out → z ≡ listedOf (listingOfPart image index n) out
   list-opened v z q h = h ∙ opened (VolumeOpening.Got v) q
 
-  pub list-refused : (w : Refusal) (z : Filled) → r .volume ≡ VolumeOpening.No w → z ≡ listedOf (no w) out → z ≡ listedOf (listingOf image index n) out
+  pub list-refused : (w : Refusal) (z : Filled) → r .volume ≡ VolumeOpening.No w → z ≡ listedOf (no w) out → z ≡ listedOf (listingOfPart image index n) out
   list-refused w z q h = h ∙ opened (VolumeOpening.No w) q
 
 pub ruleset all = (needs, listing-whole, zeroed, listed-got, listed-no, list-opened, list-refused)

@@ -3,3 +3,4 @@ mod list;
 mod writers;
 
 pub use list::list_text;
+pub use list::refuse_zeroed;

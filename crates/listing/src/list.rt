@@ -18,7 +18,7 @@ ghost use Rattle.error.specs.Answer.{no};
 ghost use Rattle.text.specs.Output.{outputOf, at};
 ghost use Rattle.calls.specs.Filled.{filledAt};
 ghost use Rattle.demand.specs.Listing.{trace, listing};
-ghost use Rattle.demand.specs.Demand.{viewOf, listingOf};
+ghost use Rattle.demand.specs.Demand.{viewOf, listingOfPart};
 ghost use Rattle.forms.specs.Inner.{run};
 ghost use Rattle.listing.specs.Listed.{listedOf};
 
@@ -41,7 +41,7 @@ fn put_listing(out: &mut [u8], image: &[u8], v: Volume) -> Position
 }
 
 // A refused listing leaves its buffer all zeros.
-fn refuse_zeroed(out: &mut [u8], w: Refusal) -> Position
+pub fn refuse_zeroed(out: &mut [u8], w: Refusal) -> Position
     ensures { λ r. ⌜ filledAt r (now (out .exit)) ≡ listedOf (no w) (now (out .entry)) ⌝ }
 {
     clear(out);
@@ -59,7 +59,7 @@ fn list_volume(image: &[u8], v: Volume, out: &mut [u8]) -> Position
 }
 
 pub fn list_text(image: &[u8], index: u64, out: &mut [u8]) -> Position
-    ensures { λ r. ⌜ filledAt r (now (out .exit)) ≡ listedOf (listingOf (now (image .entry)) index (length (now (out .entry)))) (now (out .entry)) ⌝ }
+    ensures { λ r. ⌜ filledAt r (now (out .exit)) ≡ listedOf (listingOfPart (now (image .entry)) index (length (now (out .entry)))) (now (out .entry)) ⌝ }
 {
     let opened = open_at(image, index);
     let volume = opened.volume;

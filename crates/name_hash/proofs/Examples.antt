@@ -5,7 +5,8 @@ use mathlib.Core.Bool.{true, false}
 use mathlib.Core.List.{[], _∷_}
 use Rattle.error.specs.Answer.{got, no, ifLe, ifEq}
 use Rattle.error.specs.declared.Refusal.the-variants.{CharacterNotCovered}
-use Rattle.name_hash.specs.Hash.{shift, shifts, crc, lower, foldCase, foldAll, utf32, nameHash, nameLenAndHash}
+use Rattle.crc.specs.Crc.{shift, shifts, crc}
+use Rattle.name_hash.specs.Hash.{castagnoli, lower, foldCase, foldAll, utf32, nameHash, nameLenAndHash}
 
 pub empty-hash : nameHash true [] ≡ got 0x3FFFFF
 unfolding nameHash foldAll utf32 crc
@@ -24,7 +25,7 @@ unfolding nameLenAndHash nameHash foldAll utf32 crc
 empty-len-and-hash-sensitive = refl
 
 -- "123456789", complemented: the check value published for CRC-32C is 0xE3069283
-pub crc-check : crc 0xFFFFFFFF (49 ∷ 50 ∷ 51 ∷ 52 ∷ 53 ∷ 54 ∷ 55 ∷ 56 ∷ 57 ∷ []) ≡ 0xFFFFFFFF - 0xE3069283
+pub crc-check : crc castagnoli 0xFFFFFFFF (49 ∷ 50 ∷ 51 ∷ 52 ∷ 53 ∷ 54 ∷ 55 ∷ 56 ∷ 57 ∷ []) ≡ 0xFFFFFFFF - 0xE3069283
 unfolding crc shifts shift ifEq
 crc-check = refl
 

@@ -7,7 +7,6 @@ use mir.Syntax.{w8}
 use mir.Val.{Fits}
 use native.Mathlib.Omega.{arith}
 use native.Mathlib.Numerals.{add-one}
-use lib.Bits.{bitXor}
 use lib.Dec.{leb}
 use lib.ListN.{length, getD, drop}
 use lib.Seq.{drop-cons, drop-length}
@@ -21,28 +20,32 @@ use Rattle.bytes.specs.Number.{told}
 use Rattle.bytes.specs.declared.Number.{Number}
 use Rattle.bytes.specs.declared.Number.the-variants.{Got, No}
 use Rattle.bytes.proofs.Laws.{answers}
-use Rattle.name_hash.specs.Hash.{shifts, crc, lower, foldCase, foldAll, utf32, nameHash}
+use Rattle.crc.specs.Crc.{crc}
+use Rattle.crc.specs.Tabled.{TableRule, stepBy, crcBy}
+use Rattle.crc.proofs.Tables.{crc-tabled}
+use Rattle.name_hash.specs.Hash.{castagnoli, lower, foldCase, foldAll, utf32, nameHash}
 
--- the bytes left, from the register that those before gave
-module _ (b : List ℕ) (i c whole : ℕ) (p : crc c (drop i b) ≡ whole) where
-  pub crc-goes : (d : ℕ) → i < length b → d ≡ shifts 8 (bitXor c (getD b i 0)) → crc d (drop (i + 1) b) ≡ whole
-  unfolding crc
-  crc-goes d h e = rw (e, add-one) (rw (drop-cons b i 0 h) at p)
+-- a character as 4 bytes, by a table
+module _ (ws : List ℕ) (rule : TableRule castagnoli ws) where
+  pub table-long : 256 ≤ length ws
+  table-long = rule .long
 
-  pub crc-done : i ≤ length b → length b ≤ i → c ≡ whole
-  unfolding crc
-  crc-done h k = let e : i ≡ length b = omega arith in rw (e, drop-length) at p
+  pub character-by : (c x d e f g : ℕ) → d ≡ stepBy ws c x → e ≡ stepBy ws d 0 → f ≡ stepBy ws e 0 → g ≡ stepBy ws f 0 → g ≡ crc castagnoli c (x ∷ 0 ∷ 0 ∷ 0 ∷ [])
+  unfolding crcBy
+  character-by c x d e f g h i j k = crc-tabled castagnoli ws rule c (x ∷ 0 ∷ 0 ∷ 0 ∷ []) g (rw (k, j, i, h))
+
+pub ruleset by-table = (needs, table-long, character-by, crc-tabled)
 
 -- the hash of the characters left, from the register that those before gave
 unfoldable pub hashFrom : Bool → ℕ → List ℕ → Answer ℕ
-hashFrom m c b = foldAll m b >>= λ s. got (crc c (utf32 s) % 2 ^ 22)
+hashFrom m c b = foldAll m b >>= λ s. got (crc castagnoli c (utf32 s) % 2 ^ 22)
 
-hash-cons : (m : Bool) (c x : ℕ) (b : List ℕ) → hashFrom m c (x ∷ b) ≡ (foldCase m x >>= λ y. hashFrom m (crc c (y ∷ 0 ∷ 0 ∷ 0 ∷ [])) b)
+hash-cons : (m : Bool) (c x : ℕ) (b : List ℕ) → hashFrom m c (x ∷ b) ≡ (foldCase m x >>= λ y. hashFrom m (crc castagnoli c (y ∷ 0 ∷ 0 ∷ 0 ∷ [])) b)
 unfolding hashFrom foldAll utf32 crc
 hash-cons m c x b = of (foldCase m x) (foldAll m b)
   where
     of : (f : Answer ℕ) (s : Answer (List ℕ)) →
-        ((f >>= λ y. s >>= λ ys. got (y ∷ ys)) >>= λ ys. got (crc c (utf32 ys) % 2 ^ 22)) ≡ (f >>= λ y. s >>= λ ys. got (crc (crc c (y ∷ 0 ∷ 0 ∷ 0 ∷ [])) (utf32 ys) % 2 ^ 22))
+        ((f >>= λ y. s >>= λ ys. got (y ∷ ys)) >>= λ ys. got (crc castagnoli c (utf32 ys) % 2 ^ 22)) ≡ (f >>= λ y. s >>= λ ys. got (crc castagnoli (crc castagnoli c (y ∷ 0 ∷ 0 ∷ 0 ∷ [])) (utf32 ys) % 2 ^ 22))
     of (got y) (got ys) = refl
     of (got y) (no e) = refl
     of (no e) s = refl
@@ -52,10 +55,10 @@ unfolding hashFrom nameHash
 hash-start m b = refl
 
 module _ (m : Bool) (b : List ℕ) (i c : ℕ) (whole : Answer ℕ) (p : hashFrom m c (drop i b) ≡ whole) where
-  next : i < length b → (foldCase m (getD b i 0) >>= λ y. hashFrom m (crc c (y ∷ 0 ∷ 0 ∷ 0 ∷ [])) (drop (i + 1) b)) ≡ whole
+  next : i < length b → (foldCase m (getD b i 0) >>= λ y. hashFrom m (crc castagnoli c (y ∷ 0 ∷ 0 ∷ 0 ∷ [])) (drop (i + 1) b)) ≡ whole
   next h = rw add-one (sym (hash-cons m c (getD b i 0) (drop (suc i) b)) ∙ (rw (drop-cons b i 0 h) at p))
 
-  pub hash-goes : (r : Number) (y d : ℕ) → i < length b → told r ≡ foldCase m (getD b i 0) → r ≡ Got y → d ≡ crc c (y ∷ 0 ∷ 0 ∷ 0 ∷ []) → hashFrom m d (drop (i + 1) b) ≡ whole
+  pub hash-goes : (r : Number) (y d : ℕ) → i < length b → told r ≡ foldCase m (getD b i 0) → r ≡ Got y → d ≡ crc castagnoli c (y ∷ 0 ∷ 0 ∷ 0 ∷ []) → hashFrom m d (drop (i + 1) b) ≡ whole
   hash-goes r y d h f q e = rw e (rw (← f, q) at (next h))
 
   pub hash-stops : (r : Number) (e : Refusal) → i < length b → told r ≡ foldCase m (getD b i 0) → r ≡ No e → no e ≡ whole
@@ -90,8 +93,8 @@ pub hash-fits : (r : Number) (m : Bool) (b : List ℕ) (h : ℕ) → told r ≡ 
 unfolding nameHash
 hash-fits r m b h p q = of (foldAll m b) (sym (ap told q) ∙ p)
   where
-    of : (s : Answer (List ℕ)) → got h ≡ (s >>= λ ys. got (crc (2 ^ 32 - 1) (utf32 ys) % 2 ^ 22)) → h < 2 ^ 22
-    of (got ys) e = let k : h ≡ crc (2 ^ 32 - 1) (utf32 ys) % 2 ^ 22 = cc in omega (arith, k)
+    of : (s : Answer (List ℕ)) → got h ≡ (s >>= λ ys. got (crc castagnoli (2 ^ 32 - 1) (utf32 ys) % 2 ^ 22)) → h < 2 ^ 22
+    of (got ys) e = let k : h ≡ crc castagnoli (2 ^ 32 - 1) (utf32 ys) % 2 ^ 22 = cc in omega (arith, k)
     of (no r) e = let z : _≡_ {A = ℕ} 0 1 = cc in absurd (omega arith)
 
 pub ruleset all = (needs, tests, answers, picks, folded-fits, hash-fits)

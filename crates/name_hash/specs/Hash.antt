@@ -1,25 +1,15 @@
 -- The hash of a directory entry's name. Document 01, "name_hash.rs", which the quotes are from; Apple File System Reference, "File-System Objects", j_drec_hashed_key_t.
-use Prim.Native.Nat.{ℕ, zero, suc, _+_, _*_, _/_, _%_, _^_, _-_}
+use Prim.Native.Nat.{ℕ, _+_, _*_, _%_, _^_, _-_}
 use mathlib.Core.Bool.{Bool}
 use mathlib.Core.List.{List, [], _∷_}
-use lib.Bits.{bitXor}
 use lib.ListN.{length}
-use Rattle.error.specs.Answer.{Answer, got, no, _>>=_, pick, ifLe, ifEq}
+use Rattle.error.specs.Answer.{Answer, got, no, _>>=_, pick, ifLe}
 use Rattle.error.specs.declared.Refusal.the-variants.{CharacterNotCovered}
+use Rattle.crc.specs.Crc.{crc}
 
--- "CRC-32C (reflected 0x82F63B78)", bit by bit: the lowest bit falls out, and the polynomial is added where it was 1
-unfoldable pub shift : ℕ → ℕ
-shift c = ifEq (c % 2) 1 (bitXor (c / 2) 0x82F63B78) (c / 2)
-
--- "each word is eight shift steps of its index" (document 01): n of them
-unfoldable pub shifts : ℕ → ℕ → ℕ
-shifts zero c = c
-shifts (suc n) c = shifts n (shift c)
-
--- CRC-32C, name_hash.rs, `crc32c_raw`: the register c after the bytes
-unfoldable pub crc : ℕ → List ℕ → ℕ
-crc c [] = c
-crc c (x ∷ b) = crc (shifts 8 (bitXor c x)) b
+-- "CRC-32C (reflected 0x82F63B78)": Castagnoli's polynomial
+abbrev pub castagnoli : ℕ
+castagnoli = 0x82F63B78
 
 -- "lower case", of an ASCII character
 unfoldable pub lower : ℕ → ℕ
@@ -41,7 +31,7 @@ utf32 (x ∷ b) = x ∷ 0 ∷ 0 ∷ 0 ∷ utf32 b
 
 -- "started at all ones and not complemented, low 22 bits"
 unfoldable pub nameHash : Bool → List ℕ → Answer ℕ
-nameHash i name = foldAll i name >>= λ b. got (crc (2 ^ 32 - 1) (utf32 b) % 2 ^ 22)
+nameHash i name = foldAll i name >>= λ b. got (crc castagnoli (2 ^ 32 - 1) (utf32 b) % 2 ^ 22)
 
 -- name_hash.rs, `name_len_and_hash`: the length with the closing zero byte in the low 10 bits, the hash above them
 unfoldable pub nameLenAndHash : Bool → List ℕ → Answer ℕ

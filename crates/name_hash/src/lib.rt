@@ -1,11 +1,14 @@
 // The hash stored with a directory entry's name (name_hash.rs).
 use bytes::Number;
+use crc::byte_step;
+use crc::crc_of;
 use error::Refusal;
 ghost use mathlib.Core.Path.{_≡_};
 ghost use mathlib.Core.List.{[], _∷_};
-ghost use lib.Bits.{bitXor};
 ghost use Rattle.bytes.specs.Number.{told};
-ghost use Rattle.name_hash.specs.Hash.{shifts, crc, lower, foldCase, nameHash, nameLenAndHash};
+ghost use Rattle.crc.specs.Crc.{crc};
+ghost use Rattle.crc.specs.Tabled.{TableRule};
+ghost use Rattle.name_hash.specs.Hash.{castagnoli, lower, foldCase, nameHash, nameLenAndHash};
 
 // A byte's word is the byte after eight shifts.
 const TABLE: [u32; 256] = [
@@ -267,30 +270,27 @@ const TABLE: [u32; 256] = [
     0xAD7D5351,
 ];
 
-fn byte_step(register: u32, byte: u8) -> u32
-    ensures { λ r. ⌜ r ≡ shifts 8 (bitXor register byte) ⌝ }
+// A constant is built anew where it is used, so a call takes it once and hands it on.
+fn table() -> [u32; 256]
+    ensures { λ r. ⌜ TableRule castagnoli r ⌝ }
 {
-    let x = register ^ (byte as u32);
-    TABLE[(x % 256) as usize] ^ (x / 256)
+    TABLE
 }
 
 // A character as 4 bytes.
-fn character_step(register: u32, x: u8) -> u32
-    ensures { λ r. ⌜ r ≡ crc register (x ∷ 0 ∷ 0 ∷ 0 ∷ []) ⌝ }
+fn character_step(words: &[u32], register: u32, x: u8) -> u32
+    requires { ⌜ TableRule castagnoli (now words) ⌝ }
+    ensures { λ r. ⌜ r ≡ crc castagnoli register (x ∷ 0 ∷ 0 ∷ 0 ∷ []) ⌝ }
 {
-    byte_step(byte_step(byte_step(byte_step(register, x), 0), 0), 0)
+    let first = byte_step(words, register, x);
+    byte_step(words, byte_step(words, byte_step(words, first, 0), 0), 0)
 }
 
 pub fn crc32c_raw(register: u32, b: &[u8]) -> u32
-    ensures { λ r. ⌜ r ≡ crc register (now (b .entry)) ⌝ }
+    ensures { λ r. ⌜ r ≡ crc castagnoli register (now (b .entry)) ⌝ }
 {
-    let mut c = register;
-    let mut i = 0;
-    while i < b.len() {
-        c = byte_step(c, b[i]);
-        i += 1;
-    }
-    c
+    let words = table();
+    crc_of(&words, register, b)
 }
 
 pub fn lower_case(x: u8) -> u8
@@ -318,7 +318,8 @@ pub fn fold_case(x: u8, insensitive: bool) -> Number
     Number::Got(x as u64)
 }
 
-pub fn name_hash(name: &[u8], insensitive: bool) -> Number
+fn hash_by(words: &[u32], name: &[u8], insensitive: bool) -> Number
+    requires { ⌜ TableRule castagnoli (now words) ⌝ }
     ensures { λ r. ⌜ told r ≡ nameHash insensitive (now (name .entry)) ⌝ }
 {
     let mut c: u32 = 0xFFFFFFFF;
@@ -326,13 +327,20 @@ pub fn name_hash(name: &[u8], insensitive: bool) -> Number
     while i < name.len() {
         match fold_case(name[i], insensitive) {
             Number::Got(x) => {
-                c = character_step(c, x as u8);
+                c = character_step(words, c, x as u8);
             }
             Number::No(e) => return Number::No(e),
         }
         i += 1;
     }
     Number::Got((c % 4194304) as u64)
+}
+
+pub fn name_hash(name: &[u8], insensitive: bool) -> Number
+    ensures { λ r. ⌜ told r ≡ nameHash insensitive (now (name .entry)) ⌝ }
+{
+    let words = table();
+    hash_by(&words, name, insensitive)
 }
 
 // The length, with the closing zero byte, below the hash.

@@ -19,6 +19,10 @@ use Rattle.paths.specs.declared.choose.Choice.{Choice}
 use Rattle.paths.specs.declared.choose.Choice.the-variants.{Open, Exact, Keyed, No}
 use Rattle.paths.proofs.Keys.{wide-reading, ascii-reading}
 
+-- a choice that is refused
+pub settle-no : (c : Choice) (w : Refusal) → c ≡ No w → no w ≡ settled c
+settle-no c w h = rw h
+
 -- an ASCII name is compared as it stands
 module _ (rule : NameRule) (name p : List ℕ) (e : Entry) (k : Bool) (h : k ≡ wide name) where
   pub key-wide : k ≡ true → No CharacterNotCovered ≡ byKey rule (lossy name) p e

@@ -9,9 +9,10 @@
 //! apfs list IMAGE                 the listing of a whole volume
 //! ```
 //!
-//! `--volume N` names another volume than the first, which is 0. Refusals go to standard error, and
-//! the exit status is then 1; it is 2 where the arguments are wrong. A listing has as much room as it
-//! needs, up to 1 GiB or eight times the image; sparse files may ask for more, which is refusal 6.
+//! An image is of a stick with a GUID partition table, or of an APFS partition alone. `--volume N` names another volume
+//! than the first, which is 0. Refusals go to standard error, and the exit status is then 1; it is 2 where the arguments
+//! are wrong. A listing has as much room as it needs, up to 1 GiB or eight times the partition; sparse files may ask for
+//! more, which is refusal 6.
 
 mod tool;
 

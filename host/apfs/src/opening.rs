@@ -1,12 +1,20 @@
-//! Opening a container.
+//! The part of an image that everything reads, and opening the container in it.
 
 // A slice passes as its pointer and its length.
 extern "C" {
+    fn apfs_part(image: *const u8, image_len: usize, out: *mut u8, out_len: usize) -> i64;
     fn apfs_open(image: *const u8, image_len: usize, out: *mut u8, out_len: usize) -> i64;
+}
+
+// Each call below lends live slices for the call's time; the port writes to `out` alone.
+
+/// The part's line, `(part OFFSET LENGTH)` and LF. Every call finds the part anew; one that has NXSB and 4,096 bytes is
+/// its own part, so it may be passed in the image's place.
+pub fn part(image: &[u8], out: &mut [u8]) -> i64 {
+    unsafe { apfs_part(image.as_ptr(), image.len(), out.as_mut_ptr(), out.len()) }
 }
 
 /// The container's line, `(container BLOCK_SIZE BLOCK_COUNT XID OID ..)` and LF.
 pub fn open(image: &[u8], out: &mut [u8]) -> i64 {
-    // Live slices are lent for the call's time; the port writes to `out` alone.
     unsafe { apfs_open(image.as_ptr(), image.len(), out.as_mut_ptr(), out.len()) }
 }

@@ -15,6 +15,14 @@ pub fn words(number: u64) -> &'static str {
         8 => "a number in the image is too large to go on with",
         9 => "a name has a character that is not covered",
         10 => "the tree is too deep",
+        11 => "there is neither an APFS container nor an intact partition table",
+        12 => "the partition table has no APFS partition that lies in the image",
+        13 => "no checkpoint has that number",
+        14 => "the listing is longer than 4,294,967,295 bytes",
+        15 => "the text is not a listing that can be stored",
+        16 => "the listing contradicts itself",
+        17 => "the image does not fit",
+        18 => "the seed is 0, or the number of nodes is not 1 to 64",
         _ => "unknown refusal",
     }
 }
@@ -31,6 +39,14 @@ pub fn advice(number: u64) -> &'static str {
         7 => "give the image of one APFS partition of at most 16 GiB",
         9 => "give each name letter for letter as `apfs ls` shows it",
         10 => "`apfs ls` and `apfs cat` read what lies deeper than 64 directories",
+        11 => "give the image of a whole stick with a GUID partition table, or of an APFS partition from its first byte on",
+        12 => "copy the stick again, whole; a stick without an APFS partition is not read",
+        13 => "give the transaction number of a checkpoint that is there",
+        14 => "read the volume file by file",
+        15 => "give a listing as it was written",
+        16 => "give each id and stream one content, and the entries in the order of their keys",
+        17 => "give a longer buffer, or a smaller listing",
+        18 => "give another seed, and 1 to 64 nodes",
         _ => "report it",
     }
 }

@@ -2,14 +2,17 @@
 
 use std::path::Path;
 use std::process::exit;
-use std::sync::Arc;
 
 use compare::calls::{self, Port};
 use compare::comparison::Comparison;
-use compare::opening::{answer, check::check, run::Run, Open};
+use compare::image::Image;
+use compare::opening::run::{judge, Run};
+use compare::opening::{answer, Open};
 use compare::pairs::{self, by_oracle, Ports};
 use compare::volumes::Volumes;
-use compare::{bench, cases, list, reach, record, recorded, sample};
+use compare::{bench, cases, list, parts, reach, record, recorded, sample};
+
+use sticks::gpt::expected_part;
 
 use crate::stop;
 
@@ -30,6 +33,18 @@ fn calls_port() -> Option<Port<'static>> {
 fn list_port() -> Option<list::Port<'static>> {
     #[cfg(feature = "calls")]
     return Some(&compare::port::calls::list);
+    #[cfg(not(feature = "calls"))]
+    None
+}
+
+fn parts_ports() -> Option<parts::Ports<'static>> {
+    #[cfg(feature = "calls")]
+    return Some(parts::Ports {
+        part: &compare::port::part,
+        open: &compare::port::open,
+        call: &calls::port,
+        list: &compare::port::calls::list,
+    });
     #[cfg(not(feature = "calls"))]
     None
 }
@@ -162,6 +177,20 @@ pub fn pairs(seed: u64, count: u64) {
     finish("pairs", good, if calls_port().is_some() { "all as they must be" } else { "the oracle alone was asked" });
 }
 
+pub fn parts(seed: u64, count: u64) {
+    answer::silence_panics();
+    let run = parts::run::Run::over(seed, count, parts_ports());
+    print!("seed {seed}, {count} images with a table\n{}", run.tally);
+    let missing = run.tally.missing();
+    let mut good = !run.report_failure(Path::new("target"));
+    if good && !missing.is_empty() {
+        println!("never seen: {}", missing.join(", "));
+        good = false;
+    }
+    good &= vast(parts_ports().map(|p| parts::run::vast(p.part)));
+    finish("parts", good, if parts_ports().is_some() { "all agree" } else { "the oracle alone was asked" });
+}
+
 pub fn reach(seed: u64, count: u64) {
     answer::silence_panics();
     print!("{}", reach::Reach::over(seed, count).report());
@@ -172,21 +201,30 @@ pub fn bench() {
     print!("{}", bench::opening::run(port()));
     print!("{}", bench::calls::run(calls_port()));
     print!("{}", bench::listing::run(list_port()));
+    print!("{}", bench::parts::run(parts_ports()));
 }
 
 pub fn open(files: &[String]) {
     answer::silence_panics();
     let mut agree = true;
     for file in files {
-        let image = Arc::new(std::fs::read(file).unwrap_or_else(|e| stop(&format!("{file}: {e}"))));
-        let want = answer::open(&image);
-        println!("{file}\n  oracle: {want}");
+        let image = Image::of(std::fs::read(file).unwrap_or_else(|e| stop(&format!("{file}: {e}"))));
+        println!("{file}\n  part:   {}", part(&image));
+        println!("  oracle: {}", answer::of_image(&image));
         if let Some(port) = port() {
-            println!("  port:   {}", said(port, &image));
-            agree &= check(port, &image, &want).map_err(|e| println!("  differ: {e}")).is_ok();
+            println!("  port:   {}", said(port, &image.whole));
+            agree &= judge(&image, Some(port), None).map_err(|m| println!("  differ: {}", m.got)).is_ok();
         }
     }
     exit(if agree { 0 } else { 1 })
+}
+
+/// What the oracle is given, by document 02.
+fn part(image: &Image) -> String {
+    match expected_part(&image.whole) {
+        Ok((offset, length)) => format!("{length} bytes from byte {offset} on"),
+        Err(number) => format!("refused with {number}"),
+    }
 }
 
 fn said(port: Open, image: &[u8]) -> String {

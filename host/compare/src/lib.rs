@@ -1,6 +1,7 @@
 //! The port as safe functions, and its comparison with the published Rust: leaves ([`leaf`]), the
 //! opening of containers ([`opening`]) and of volumes ([`volumes`]), the calls on volumes ([`calls`]) and their
-//! listings ([`list`]), and of two sticks at a time ([`pairs`]).
+//! listings ([`list`]), all of these on images with a partition table ([`parts`]), and of two sticks at a time
+//! ([`pairs`]). The Rust reads no table: it is given the part of an [`image`] that the table leads to.
 //!
 //! The comparison needs the oracle; without the published sources only [`port`], [`leaf`] and the
 //! file format of [`record`] are built.
@@ -15,6 +16,7 @@ pub mod cases;
 pub mod comparison;
 #[cfg(oracle)]
 pub mod expected;
+pub mod image;
 pub mod leaf;
 #[cfg(oracle)]
 pub mod list;
@@ -22,6 +24,8 @@ pub mod list;
 pub mod opening;
 #[cfg(oracle)]
 pub mod pairs;
+#[cfg(oracle)]
+pub mod parts;
 pub mod port;
 pub mod random;
 #[cfg(oracle)]

@@ -13,13 +13,14 @@
 //! cargo run --release -p compare -- volumes         open their volumes
 //! cargo run --release -p compare -- calls           the calls on their volumes
 //! cargo run --release -p compare -- list            the listings of their volumes
+//! cargo run --release -p compare -- parts           all of these on images with a partition table
 //! cargo run --release -p compare -- pairs           two sticks at a time: the same contents, and one thing changed
 //! cargo run --release -p compare -- reach           every call of the oracle on sticks, and what became of it
 //! cargo run --release -p compare -- open FILE..     open these images, and print each answer
 //! ```
 //!
 //! After `rt staticlib apfs`, with `--features apfs`, `sticks` and `open` hold the port's opening
-//! against the oracle's, and with `--features calls` `volumes`, `calls`, `list` and `pairs` do the same of its
+//! against the oracle's, and with `--features calls` `volumes`, `calls`, `list`, `parts` and `pairs` do the same of its
 //! calls and its listings; without these features they ask the oracle alone. Timings of both:
 //!
 //! ```text
@@ -44,10 +45,12 @@ const DEFAULT_STICKS: u64 = 4000;
 const DEFAULT_FOR_CALLS: u64 = 3000;
 /// Each listing is a walk of the port through a whole volume, for each of two to ten buffers.
 const DEFAULT_FOR_LISTS: u64 = 1600;
+/// Each image with a table has some 40 calls made on it, one of four as many as a stick.
+const DEFAULT_FOR_PARTS: u64 = 4000;
 /// Each stick has a second one beside it, and others with one thing changed.
 const DEFAULT_FOR_PAIRS: u64 = 300;
 const USAGE: &str =
-    "usage: compare [record FILE | record-calls FILE | replay FILE | sticks | volumes | calls | list | pairs | reach | bench | open FILE..] \
+    "usage: compare [record FILE | record-calls FILE | replay FILE | sticks | volumes | calls | list | parts | pairs | reach | bench | open FILE..] \
                      [--seed N] [--count K]";
 
 enum Command {
@@ -59,6 +62,7 @@ enum Command {
     Volumes,
     Calls,
     List,
+    Parts,
     Pairs,
     Reach,
     Bench,
@@ -95,6 +99,7 @@ fn arguments() -> Arguments {
     let usual = match command {
         Command::Calls => DEFAULT_FOR_CALLS,
         Command::List => DEFAULT_FOR_LISTS,
+        Command::Parts => DEFAULT_FOR_PARTS,
         Command::Pairs => DEFAULT_FOR_PAIRS,
         _ => DEFAULT_STICKS,
     };
@@ -111,6 +116,7 @@ fn command(words: &[String]) -> Command {
         ["volumes"] => Command::Volumes,
         ["calls"] => Command::Calls,
         ["list"] => Command::List,
+        ["parts"] => Command::Parts,
         ["pairs"] => Command::Pairs,
         ["reach"] => Command::Reach,
         ["bench"] => Command::Bench,
@@ -142,6 +148,7 @@ fn main() {
         Command::Volumes => commands::volumes(seed, count),
         Command::Calls => commands::calls(seed, count),
         Command::List => commands::list(seed, count),
+        Command::Parts => commands::parts(seed, count),
         Command::Pairs => commands::pairs(seed, count),
         Command::Reach => commands::reach(seed, count),
         Command::Bench => commands::bench(),

@@ -1,7 +1,6 @@
 //! Opening volumes: each slot of sticks drawn from a seed, whole and damaged, and places past the last slot.
 
 use std::collections::BTreeMap;
-use std::sync::Arc;
 
 use oracle::nx::Container;
 use oracle::probe;
@@ -9,8 +8,8 @@ use sticks::{damage, Stick};
 
 use crate::calls::call::Call;
 use crate::calls::Port;
+use crate::image::Image;
 use crate::opening::answer::{self, caught, Answer};
-use crate::opening::outside::outside;
 use crate::opening::run::stick_seed;
 
 /// How often each stick is damaged.
@@ -37,7 +36,7 @@ impl Volumes {
             let image = Stick::from_seed(seed).image;
             for k in 0..=DAMAGES {
                 let b = if k == 0 { image.clone() } else { damage(&image, seed.wrapping_mul(DAMAGES).wrapping_add(k)) };
-                if let Err(e) = volumes.stick(Arc::new(b), port) {
+                if let Err(e) = volumes.stick(&Image::of(b), port) {
                     volumes.failure = Some(format!("stick {seed}, damage {k}: {e}"));
                     return volumes;
                 }
@@ -46,13 +45,10 @@ impl Volumes {
         volumes
     }
 
-    fn stick(&mut self, image: Arc<Vec<u8>>, port: Option<Port>) -> Result<(), String> {
-        if outside(&image).is_some() {
-            return Ok(());
-        }
-        let Ok(Ok(c)) = caught(|| answer::container(&image)) else { return Ok(()) };
+    fn stick(&mut self, image: &Image, port: Option<Port>) -> Result<(), String> {
+        let Some((_, c)) = answer::opened(image) else { return Ok(()) };
         let slots = c.sb.fs_oids.len() as u64;
-        (0..=slots).chain([u64::MAX]).try_for_each(|i| self.volume(&image, &c, i, port))
+        (0..=slots).chain([u64::MAX]).try_for_each(|i| self.volume(&image.whole, &c, i, port))
     }
 
     fn volume(&mut self, image: &[u8], c: &Container, i: u64, port: Option<Port>) -> Result<(), String> {

@@ -1,5 +1,5 @@
-//! Opening written down from document 01 alone agrees with the oracle on every stick, and each
-//! mistake that a port might make in it is found.
+//! Opening written down from document 01 alone, in the part that document 02 tells, agrees with the oracle on every
+//! stick, and each mistake that a port might make in it is found.
 
 #![cfg(oracle)]
 
@@ -8,6 +8,7 @@ use compare::opening::run::Run;
 use compare::recorded::asked::Asked;
 use compare::recorded::read::{of_cases, Recorded};
 use sticks::block::{get16, get32, get64, is_sealed};
+use sticks::gpt::expected_part;
 
 const ENOUGH: u64 = 1500;
 
@@ -215,6 +216,8 @@ impl Stand<'_> {
 }
 
 fn open(image: &[u8], m: Mistake) -> Answer<String> {
+    let (start, length) = expected_part(image).map_err(|n| -i64::from(n))?;
+    let image = &image[start..start + length];
     let first = image.get(..4096).ok_or(-1)?;
     test(first[32..36] == *b"NXSB", 4)?;
     let size = u64::from(get32(first, 36));

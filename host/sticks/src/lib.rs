@@ -1,7 +1,7 @@
 //! Makes container images from a seed, whole or damaged.
 //!
 //! [`plan::Plan`] says what a stick holds, [`container::make`] writes its image, and
-//! [`damage::damage`] spoils one. All of it depends on the seed alone.
+//! [`damage::damage`] spoils one; [`gpt::draw`] puts a partition table around it. All of it depends on the seed alone.
 
 pub mod block;
 pub mod checkpoint;
@@ -9,6 +9,7 @@ pub mod container;
 pub mod contents;
 pub mod damage;
 mod disk;
+pub mod gpt;
 mod node;
 mod omap;
 pub mod plan;

@@ -1,7 +1,9 @@
-//! The object checksum and the name hash, as document 01 states them.
+//! The object checksum and the name hash, as document 01 states them, and the sum of a partition table.
 
 const MODULUS: u64 = 0xffff_ffff;
-const POLYNOMIAL: u32 = 0x82f6_3b78;
+const CASTAGNOLI: u32 = 0x82f6_3b78;
+/// Of IEEE 802.3.
+const ETHERNET: u32 = 0xedb8_8320;
 
 /// What the first 8 bytes of an object must hold.
 pub fn checksum(object: &[u8]) -> u64 {
@@ -20,14 +22,23 @@ pub fn checksum(object: &[u8]) -> u64 {
     c2 << 32 | c1
 }
 
-pub fn crc32c(mut crc: u32, bytes: &[u8]) -> u32 {
+/// The register after the bytes, bit by bit.
+fn shifted(polynomial: u32, mut crc: u32, bytes: &[u8]) -> u32 {
     for &b in bytes {
         crc ^= u32::from(b);
         for _ in 0..8 {
-            crc = if crc & 1 == 1 { crc >> 1 ^ POLYNOMIAL } else { crc >> 1 };
+            crc = if crc & 1 == 1 { crc >> 1 ^ polynomial } else { crc >> 1 };
         }
     }
     crc
+}
+
+pub fn crc32c(crc: u32, bytes: &[u8]) -> u32 {
+    shifted(CASTAGNOLI, crc, bytes)
+}
+
+pub fn crc32(bytes: &[u8]) -> u32 {
+    !shifted(ETHERNET, !0, bytes)
 }
 
 /// The low 22 bits of the hash of a name's characters. Ill-formed names go by their lossy reading.

@@ -1,13 +1,23 @@
 use borrow.Author.Needs.{needs}
+use Rattle.demand.specs.Demand.{listingOf}
 use Rattle.apfs.proofs.Listings.{listed}
 use Rattle.apfs.proofs.apfs_list.Statement.{statement}
 use Rattle.apfs.proofs.apfs_list.Tie as tie
 
 pub apfs-list-spec : {M : Type 1} → statement M
+unfolding listingOf
 apfs-list-spec =
     tie.close
     (tie.spec
     (λ c κs. search needs)
+    (λ c. search needs)
+    (λ c κs. search needs)
+    (λ c κs. search needs)
     (λ c κs. search listed)
     (λ c. search needs)
-    (λ c. search listed))
+    (λ c κs. search needs)
+    (λ c κs. search listed)
+    (λ c. search needs)
+    (λ c. rw (← c .before .before .before .before .before .before .before .before .before .part-of-image .ensures, c .before .before .before .before .before .before .before .s .given .1, ← c .before .before .before .before .before .part .ensures) (search listed))
+    (λ c. search needs)
+    (λ c. rw (← c .before .before .before .before .before .before .before .before .part-of-image .ensures, c .before .before .before .before .before .before .e .given .1) (search listed)))

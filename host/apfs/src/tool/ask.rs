@@ -2,16 +2,18 @@
 
 use std::ffi::OsStr;
 
-use apfs::calls;
+use apfs::{calls, refusal};
 
 use crate::tool::attribute::Attribute;
 use crate::tool::container::{Container, Volume};
 use crate::tool::failure::Failure;
 use crate::tool::image;
 use crate::tool::node::{Entry, Node};
+use crate::tool::part::Part;
 use crate::tool::shown::shown;
 use crate::tool::size;
 
+const CORRUPT: u64 = 2;
 const NOT_FOUND: u64 = 4;
 const PATH_NOT_UTF8: u64 = 5;
 const TOO_SHORT: u64 = 6;
@@ -27,7 +29,8 @@ const TIMES: usize = 8;
 pub struct Asked {
     /// The image file's name, for messages.
     pub file: String,
-    pub image: Vec<u8>,
+    stick: Vec<u8>,
+    part: Part,
     pub volume: u64,
     pub container: Container,
 }
@@ -71,21 +74,45 @@ fn parsed<T>(what: &str, line: &[u8], parse: fn(&str) -> Option<T>) -> Result<T,
     read.ok_or_else(|| Failure::Other(format!("{what}: an answer of no known form")))
 }
 
+/// The stick is given whole, as only then is a part without a container told from an image without a table.
+fn opened(file: &str, stick: &[u8], part: &Part) -> Result<Container, Failure> {
+    let what = match part.offset {
+        0 => file.to_string(),
+        offset => format!("{file}: partition at byte {offset}"),
+    };
+    let line = bytes(LONGEST, &|out| apfs::open(stick, out)).map_err(|n| match n {
+        NOT_FOUND => Failure::told(
+            &what,
+            n,
+            "no APFS container begins here, though the partition is of that type",
+            refusal::advice(CORRUPT),
+        ),
+        n => Failure::refused(&what, n),
+    })?;
+    parsed(&what, &line, Container::parse)
+}
+
 impl Asked {
     /// Opens the container; the volume is opened when something of it is asked for.
     pub fn of(file: &OsStr, volume: u64) -> Result<Asked, Failure> {
-        let (name, image) = (image::name(file), image::read(file)?);
-        let line = bytes(LONGEST, &|out| apfs::open(&image, out)).map_err(|n| match n {
-            NOT_FOUND => Failure::told(
-                &name,
-                n,
-                "no APFS container begins here",
-                "give the image of an APFS partition, from its first byte on",
-            ),
-            n => Failure::refused(&name, n),
-        })?;
-        let container = parsed(&name, &line, Container::parse)?;
-        Ok(Asked { file: name, image, volume, container })
+        let (file, stick) = (image::name(file), image::read(file)?);
+        let line = bytes(LONGEST, &|out| apfs::part(&stick, out)).map_err(|n| Failure::refused(&file, n))?;
+        let part = parsed(&file, &line, Part::parse)?;
+        if stick.get(part.range()).is_none() {
+            return Err(Failure::Other(format!("{file}: a part that is not in the image")));
+        }
+        let container = opened(&file, &stick, &part)?;
+        Ok(Asked { file, stick, part, volume, container })
+    }
+
+    /// What the calls are given: a part that opens is its own part, so the table need not be read in each call.
+    fn image(&self) -> &[u8] {
+        &self.stick[self.part.range()]
+    }
+
+    /// The container's partition, where it is not the whole image.
+    pub fn partition(&self) -> Option<&Part> {
+        (self.part.length < self.stick.len()).then_some(&self.part)
     }
 
     pub fn refused(&self, what: &str, number: u64) -> Failure {
@@ -98,7 +125,7 @@ impl Asked {
 
     /// Whether a volume opens: a path that is not UTF-8 is refused after that, and before anything in the volume is read.
     pub fn opens(&self, volume: u64) -> Result<(), u64> {
-        match count(calls::lookup(&self.image, volume, b"\xff", &mut [])) {
+        match count(calls::lookup(self.image(), volume, b"\xff", &mut [])) {
             Err(n) if n != PATH_NOT_UTF8 => Err(n),
             _ => Ok(()),
         }
@@ -115,13 +142,13 @@ impl Asked {
     pub fn lookup(&self, path: &[u8]) -> Result<Node, Failure> {
         self.open_volume()?;
         let what = shown_path(path);
-        let line = bytes(LONGEST, &|out| calls::lookup(&self.image, self.volume, path, out));
+        let line = bytes(LONGEST, &|out| calls::lookup(self.image(), self.volume, path, out));
         let line = line.map_err(|n| match n {
             NOT_FOUND => Failure::told(
                 format!("{}: {what}", self.file),
                 n,
                 "there is no such file or directory",
-                apfs::refusal::advice(n),
+                refusal::advice(n),
             ),
             n => self.refused(&what, n),
         })?;
@@ -130,14 +157,14 @@ impl Asked {
 
     /// The directory's entries from `place` on, as many as a buffer holds; none past the last.
     pub fn entries(&self, what: &str, id: u64, place: u64) -> Result<Vec<Entry>, Failure> {
-        let call = |out: &mut [u8]| calls::entries(&self.image, self.volume, id, place, out);
+        let call = |out: &mut [u8]| calls::entries(self.image(), self.volume, id, place, out);
         let text = bytes_from(ENTRIES, LONGEST, &call).map_err(|n| self.refused(what, n))?;
         text.split_inclusive(|&b| b == b'\n').map(|line| self.line(what, line, Entry::parse)).collect()
     }
 
     /// The attribute at `place`, or none past the last; or the refusal's number.
     pub fn attribute(&self, id: u64, place: u64) -> Result<Result<Option<Attribute>, u64>, Failure> {
-        match bytes(LISTING, &|out| calls::xattr(&self.image, self.volume, id, place, out)) {
+        match bytes(LISTING, &|out| calls::xattr(self.image(), self.volume, id, place, out)) {
             Err(n) => Ok(Err(n)),
             Ok(line) if line.is_empty() => Ok(Ok(None)),
             Ok(line) => {
@@ -149,12 +176,12 @@ impl Asked {
 
     /// The bytes of the attribute at `place`, or the refusal's number.
     pub fn attribute_bytes(&self, id: u64, place: u64) -> Result<Vec<u8>, u64> {
-        bytes(LISTING, &|out| calls::xattr_bytes(&self.image, self.volume, id, place, out))
+        bytes(LISTING, &|out| calls::xattr_bytes(self.image(), self.volume, id, place, out))
     }
 
     /// How many bytes of the file came into `out`.
     pub fn read(&self, id: u64, offset: u64, out: &mut [u8]) -> Result<usize, u64> {
-        count(calls::read(&self.image, self.volume, id, offset, out))
+        count(calls::read(self.image(), self.volume, id, offset, out))
     }
 
     /// A file's size, or the refusal of a read.
@@ -164,14 +191,14 @@ impl Asked {
 
     /// A symbolic link's text, or the refusal's number.
     pub fn link(&self, id: u64) -> Result<String, u64> {
-        let text = bytes(LONGEST, &|out| calls::link(&self.image, self.volume, id, out))?;
+        let text = bytes(LONGEST, &|out| calls::link(self.image(), self.volume, id, out))?;
         Ok(String::from_utf8_lossy(&text).into_owned())
     }
 
     /// A volume's label and rule, or the refusal's number. No call but the listing tells them; one of over
     /// [`LONGEST`] bytes is not waited for.
     pub fn volume(&self, volume: u64) -> Result<Result<Volume, u64>, Failure> {
-        match bytes(LONGEST, &|out| calls::list(&self.image, volume, out)) {
+        match bytes(LONGEST, &|out| calls::list(self.image(), volume, out)) {
             Err(n) => Ok(Err(n)),
             Ok(text) => {
                 let first = text.split_inclusive(|&b| b == b'\n').next().unwrap_or_default();
@@ -183,8 +210,8 @@ impl Asked {
     /// The volume's listing.
     pub fn list(&self) -> Result<Vec<u8>, Failure> {
         self.open_volume()?;
-        let longest = self.image.len().saturating_mul(TIMES).max(LISTING);
-        let text = bytes(longest, &|out| calls::list(&self.image, self.volume, out));
+        let longest = self.part.length.saturating_mul(TIMES).max(LISTING);
+        let text = bytes(longest, &|out| calls::list(self.image(), self.volume, out));
         text.map_err(|n| self.refused(&format!("listing of volume {}", self.volume), n))
     }
 }

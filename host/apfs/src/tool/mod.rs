@@ -10,6 +10,7 @@ mod image;
 pub mod list;
 pub mod ls;
 mod node;
+mod part;
 pub mod sample;
 mod shown;
 mod size;

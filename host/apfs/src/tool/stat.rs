@@ -20,6 +20,9 @@ pub fn container(asked: &Asked, one: bool, out: &mut dyn Write) -> Result<(), Fa
     if one {
         asked.open_volume()?;
     }
+    if let Some(p) = asked.partition() {
+        field(out, "partition", &format!("{} bytes from byte {} on", p.length, p.offset))?;
+    }
     let c = &asked.container;
     field(out, "block size", &c.block_size.to_string())?;
     field(out, "blocks", &c.blocks.to_string())?;

@@ -21,6 +21,7 @@ pub fn of(name: &str) -> String {
 pub fn all() -> String {
     let lines: Vec<String> =
         COMMANDS.iter().map(|(name, words, what)| format!("  {:25} {what}", format!("{name} {words}"))).collect();
-    let end = "Each but sample takes --volume N, of the volumes that `stat IMAGE` shows; else it is 0.";
+    let end = "IMAGE is of a stick with a GUID partition table, or of an APFS partition alone.\n\
+               Each but sample takes --volume N, of the volumes that `stat IMAGE` shows; else it is 0.";
     format!("usage: apfs COMMAND ..\n{}\n{end}", lines.join("\n"))
 }

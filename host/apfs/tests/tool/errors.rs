@@ -38,8 +38,8 @@ fn a_file_without_a_container_is_told() {
     let words = Image::of("no-container", &[0; 8192]).told(&["ls"], &[]);
     assert_eq!(
         words,
-        "apfs: FILE: no APFS container begins here (refusal 4); give the image of an APFS partition, from its first \
-         byte on\n"
+        "apfs: FILE: there is neither an APFS container nor an intact partition table (refusal 11); give the image of a \
+         whole stick with a GUID partition table, or of an APFS partition from its first byte on\n"
     );
 }
 

@@ -4,6 +4,7 @@
 
 mod errors;
 mod image;
+mod partitioned;
 mod sample;
 
 use std::io::Read;
@@ -74,7 +75,7 @@ fn refusals_have_words_and_a_number() {
     refused(image.run(&["ls"], &["nowhere"]), 4);
     refused(image.run(&["--volume", "1", "stat"], &[]), 4);
     refused(Image::of("empty", b"").run(&["ls"], &[]), 1);
-    refused(Image::of("none", &[0; 8192]).run(&["ls"], &[]), 4);
+    refused(Image::of("none", &[0; 8192]).run(&["ls"], &[]), 11);
     let o = image.run(&["cat"], &["/"]);
     assert_eq!(o.status.code(), Some(1), "{o:?}");
 }

@@ -16,6 +16,7 @@ use crate::calls::call::Call;
 use crate::calls::check::Subject;
 use crate::calls::expected::{self, of_image, Answer};
 use crate::calls::Port;
+use crate::image::Image;
 use crate::opening::answer::container;
 
 const WIDTHS: [u64; 3] = [10, 1000, 100_000];
@@ -28,7 +29,7 @@ const ROOT: u64 = 2;
 const ROOM: usize = 1 << 20;
 
 fn check(port: Option<Port>, image: &Arc<Vec<u8>>, call: &Call) {
-    let want = of_image(image, 0, call);
+    let want = of_image(&Image::of(Arc::clone(image)), 0, call);
     assert!(matches!(want.answer, Answer::Bytes(_)), "{call}: {want:?}");
     let checked = port.map(|port| Subject { port, image, volume: 0, call }.check(&want, &mut Random::new(1)));
     if let Some(Err(e)) = checked {
@@ -81,7 +82,7 @@ fn lookup(width: u64, sensitive: bool, port: Option<Port>) -> String {
 /// Up to the one past the last. The oracle too reads the directory in each call and writes the lines that fit.
 fn entries(width: u64, port: Option<Port>) -> String {
     let contents = large::spread(width, 0);
-    let image = Arc::new(make(Plan::with_contents(contents.clone(), 5)).image);
+    let image = Image::of(make(Plan::with_contents(contents.clone(), 5)).image);
     let (mut calls, mut place, mut last) = (Vec::new(), 0, false);
     while !last {
         let call = Call::Entries { id: ROOT, place, length: ROOM };

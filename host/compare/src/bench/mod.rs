@@ -4,14 +4,15 @@ pub mod calls;
 mod clock;
 pub mod listing;
 pub mod opening;
+pub mod parts;
 
 use std::fmt::Write as _;
 use std::time::Duration;
 
 const ROUNDS: u128 = 41;
-/// A round makes as many calls as take at least this long by the oracle.
+/// A round makes as many calls as take at least this long by the oracle, or by whoever is first.
 const ROUND: Duration = Duration::from_millis(4);
-/// Fewer rounds where they would take longer than this by the oracle.
+/// Fewer rounds where they would take longer than this by that one.
 const ALL: Duration = Duration::from_secs(2);
 
 type Timed<'f> = &'f mut dyn FnMut();
@@ -31,16 +32,11 @@ fn ratio(ours: Duration, oracle: Duration) -> f64 {
     ours.as_secs_f64() / oracle.as_secs_f64()
 }
 
-/// A line with the medians: the oracle's first, then those of the others with their ratio to it, or
-/// it to them.
-fn line<'f>(what: &str, oracle: Timed<'f>, warm: Option<Timed<'f>>, ours: Option<Timed<'f>>) -> String {
-    let once = time(3, oracle).max(Duration::from_nanos(1));
+/// The median of each; how often they are run goes by the first.
+fn medians(runs: &mut [Timed]) -> Vec<Duration> {
+    let once = time(3, runs[0]).max(Duration::from_nanos(1));
     let times = (ROUND.as_nanos() / once.as_nanos()).clamp(1, 10_000) as u32;
     let rounds = (ALL.as_nanos() / (once * times).as_nanos().max(1)).clamp(5, ROUNDS);
-    let mut runs: Vec<Timed> = vec![oracle];
-    let (has_warm, has_ours) = (warm.is_some(), ours.is_some());
-    runs.extend(warm);
-    runs.extend(ours);
     let mut found = vec![Vec::new(); runs.len()];
     // In turn, so that all meet the same weather.
     for _ in 0..rounds {
@@ -48,7 +44,17 @@ fn line<'f>(what: &str, oracle: Timed<'f>, warm: Option<Timed<'f>>, ours: Option
             found.push(time(times, *run));
         }
     }
-    let medians: Vec<Duration> = found.into_iter().map(median).collect();
+    found.into_iter().map(median).collect()
+}
+
+/// A line with the medians: the oracle's first, then those of the others with their ratio to it, or
+/// it to them.
+fn line<'f>(what: &str, oracle: Timed<'f>, warm: Option<Timed<'f>>, ours: Option<Timed<'f>>) -> String {
+    let mut runs: Vec<Timed> = vec![oracle];
+    let (has_warm, has_ours) = (warm.is_some(), ours.is_some());
+    runs.extend(warm);
+    runs.extend(ours);
+    let medians = medians(&mut runs);
     let mut out = format!("{what}: oracle {:>10.2?}", medians[0]);
     let ours = medians.last().copied().filter(|_| has_ours);
     if let Some(ours) = ours {

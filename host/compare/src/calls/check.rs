@@ -7,7 +7,8 @@ use crate::calls::expected::{Answer, Expected};
 use crate::calls::Port;
 
 const TOO_SHORT: i64 = -6;
-pub const REFUSALS: std::ops::RangeInclusive<i64> = -10..=-1;
+/// Those of calls that read an image.
+pub const REFUSALS: std::ops::RangeInclusive<i64> = -12..=-1;
 
 pub struct Subject<'a> {
     pub port: Port<'a>,

@@ -1,7 +1,5 @@
 //! What a call must answer: by the oracle, or by document 01 where the oracle can't tell.
 
-use std::sync::Arc;
-
 use oracle::error::Error;
 use oracle::fs::{Extent, Inode, Volume, Xattr, XattrData};
 use oracle::nx::Container;
@@ -9,6 +7,7 @@ use oracle::probe;
 
 use crate::calls::call::Call;
 use crate::calls::{line, names, stream};
+use crate::image::Image;
 use crate::opening::answer::{self, caught};
 use crate::opening::outside::outside;
 
@@ -86,35 +85,39 @@ fn stopped(a: answer::Answer, opened: bool) -> Expected {
     }
 }
 
-/// Of an image that nothing is known of.
-pub fn of_image(image: &Arc<Vec<u8>>, volume: u64, call: &Call) -> Expected {
-    if outside(image).is_some() {
+/// Of an image that no more is known of than its part.
+pub fn of_image(image: &Image, volume: u64, call: &Call) -> Expected {
+    let part = match &image.part {
+        Ok(part) => part,
+        Err(number) => return Err(Stop::Added(*number)).into(),
+    };
+    if outside(part).is_some() {
         return Err(Stop::Open("ring or maps too large")).into();
     }
-    match caught(|| answer::container(image)) {
-        Ok(Ok(c)) => of_container(image, &c, volume, call),
+    match caught(|| answer::container(part)) {
+        Ok(Ok(c)) => of_container(part, &c, volume, call),
         Ok(Err(e)) => Err(Stop::Oracle(e)).into(),
         Err(a) => stopped(a, false),
     }
 }
 
-pub fn of_container(image: &[u8], c: &Container, volume: u64, call: &Call) -> Expected {
+pub fn of_container(part: &[u8], c: &Container, volume: u64, call: &Call) -> Expected {
     match caught(|| c.volume(volume as usize)) {
-        Ok(Ok(v)) => of_volume(image, c, &v, call),
+        Ok(Ok(v)) => of_volume(part, c, &v, call),
         Ok(Err(e)) => Err(Stop::Oracle(e)).into(),
         Err(a) => stopped(a, true),
     }
 }
 
-pub fn of_volume(image: &[u8], c: &Container, v: &Volume, call: &Call) -> Expected {
+pub fn of_volume(part: &[u8], c: &Container, v: &Volume, call: &Call) -> Expected {
     let told = caught(|| match call {
         Call::Lookup { path } => lookup(v, path),
         Call::Read { id, offset, length } => read(v, *id, *offset, *length),
         Call::Entry { id, place } => entry(v, *id, *place),
         Call::Entries { id, place, length } => entries(v, *id, *place, *length),
-        Call::Xattr { id, place } => xattr(image, c, v, *id, *place),
-        Call::XattrBytes { id, place } => xattr_bytes(image, c, v, *id, *place),
-        Call::Link { id } => link(image, c, v, *id),
+        Call::Xattr { id, place } => xattr(part, c, v, *id, *place),
+        Call::XattrBytes { id, place } => xattr_bytes(part, c, v, *id, *place),
+        Call::Link { id } => link(part, c, v, *id),
         Call::Extent { id, place } => extent(v, *id, *place),
     });
     told.map_or_else(|a| stopped(a, true), Expected::from)

@@ -16,8 +16,8 @@ use crate::calls::lists::Lists;
 use crate::calls::met::Met;
 use crate::calls::tally::Tally;
 use crate::calls::{draw, Port};
+use crate::image::Image;
 use crate::opening::answer::{self, caught};
-use crate::opening::outside::outside;
 use crate::opening::run::stick_seed;
 use crate::opening::shrink::shrink;
 
@@ -51,7 +51,7 @@ pub struct Run {
     pub failure: Option<Failure>,
 }
 
-type Checked = Result<(), Box<Mismatch>>;
+pub type Checked = Result<(), Box<Mismatch>>;
 
 /// In three cases of four what the volumes' trees hold is spoiled.
 pub fn damaged(image: &[u8], seed: u64, k: u64) -> Vec<u8> {
@@ -64,7 +64,7 @@ impl Run {
     pub fn over(seed: u64, count: u64, port: Option<Port>) -> Run {
         let mut run = Run::default();
         // The last image is kept until there is a next one, so that two in a row never have one address.
-        let mut kept = Arc::default();
+        let mut kept = Image::of(Vec::new());
         for i in 0..count {
             let whole = Stick::from_seed(stick_seed(seed, i));
             for k in 0..=DAMAGES {
@@ -72,13 +72,13 @@ impl Run {
                 let image = if k == 0 { whole.image.clone() } else { damaged(&whole.image, of, k) };
                 let random = Random::new(of.wrapping_mul(31).wrapping_add(k));
                 let (tally, met) = (&mut run.tally, &mut run.met);
-                let mut trial = Trial { image: Arc::new(image), port, random, tally, met };
+                let mut trial = Trial { image: Image::of(image), port, random, tally, met };
                 let checked = trial.stick(&whole);
                 let before = std::mem::replace(&mut kept, trial.image);
                 drop(before);
                 run.images += 1;
                 if let Err(mismatch) = checked {
-                    let image = kept;
+                    let image = kept.whole;
                     run.failure = Some(Failure { seed, stick: i, damage: k, mismatch, image });
                     return run;
                 }
@@ -116,7 +116,7 @@ fn shown(e: &Expected) -> String {
 fn smaller(image: &Arc<Vec<u8>>, m: &Mismatch, port: Option<Port>) -> Vec<u8> {
     let Some(port) = port else { return image.to_vec() };
     let fails = |b: &[u8]| {
-        let want = expected::of_image(&Arc::new(b.to_vec()), m.volume, &m.call);
+        let want = expected::of_image(&Image::of(b.to_vec()), m.volume, &m.call);
         let subject = Subject { port, image: b, volume: m.volume, call: &m.call };
         want.kind == m.expected.kind && (0..8).any(|k| subject.check(&want, &mut Random::new(k)).is_err())
     };
@@ -128,24 +128,22 @@ fn smaller(image: &Arc<Vec<u8>>, m: &Mismatch, port: Option<Port>) -> Vec<u8> {
 }
 
 /// One image, asked about.
-struct Trial<'a> {
-    image: Arc<Vec<u8>>,
-    port: Option<Port<'a>>,
-    random: Random,
-    tally: &'a mut Tally,
-    met: &'a mut Met,
+pub struct Trial<'a> {
+    pub image: Image,
+    pub port: Option<Port<'a>>,
+    pub random: Random,
+    pub tally: &'a mut Tally,
+    pub met: &'a mut Met,
 }
 
 impl Trial<'_> {
-    fn stick(&mut self, whole: &Stick) -> Checked {
-        let image = Arc::clone(&self.image);
-        let opened = if outside(&image).is_some() { None } else { caught(|| answer::container(&image)).ok() };
-        let Some(Ok(c)) = opened else { return self.each(0) };
+    pub fn stick(&mut self, whole: &Stick) -> Checked {
+        let Some((part, c)) = answer::opened(&self.image) else { return self.each(0) };
         let slots = (c.sb.fs_oids.len() as u64).min(VOLUMES);
         for i in 0..slots {
             let plan = whole.plan.volumes.get(i as usize).or(whole.plan.volumes.first());
             match plan {
-                Some(plan) => self.volume(&c, i, &plan.contents)?,
+                Some(plan) => self.volume(&part, &c, i, &plan.contents)?,
                 None => self.each(i)?,
             }
         }
@@ -154,20 +152,18 @@ impl Trial<'_> {
     }
 
     /// One call of each kind on what may be no volume.
-    fn each(&mut self, volume: u64) -> Checked {
-        let image = Arc::clone(&self.image);
+    pub fn each(&mut self, volume: u64) -> Checked {
         for call in draw::each(&mut self.random) {
-            let want = expected::of_image(&image, volume, &call);
+            let want = expected::of_image(&self.image, volume, &call);
             self.judge(volume, call, want)?;
         }
         Ok(())
     }
 
-    fn volume(&mut self, c: &Container, i: u64, plan: &Contents) -> Checked {
+    fn volume(&mut self, part: &[u8], c: &Container, i: u64, plan: &Contents) -> Checked {
         let Ok(Ok(v)) = caught(|| c.volume(i as usize)) else { return self.each(i) };
-        let image = Arc::clone(&self.image);
         for call in draw::lookups(plan, &mut self.random) {
-            let want = expected::of_volume(&image, c, &v, &call);
+            let want = expected::of_volume(part, c, &v, &call);
             self.judge(i, call, want)?;
         }
         for id in draw::ids(plan, &mut self.random) {
@@ -176,7 +172,7 @@ impl Trial<'_> {
             let mut calls = draw::on(&lists, id, c.block_size().into(), &mut self.random);
             calls.extend(draw::in_one_call(&lists, id, &mut self.random));
             for call in calls {
-                let want = expected::of_volume(&image, c, &v, &call);
+                let want = expected::of_volume(part, c, &v, &call);
                 self.judge(i, call, want)?;
             }
         }
@@ -185,8 +181,9 @@ impl Trial<'_> {
 
     fn judge(&mut self, volume: u64, call: Call, want: Expected) -> Checked {
         self.tally.count(&call, want.kind);
+        let image = &self.image.whole;
         let checked = match (self.port, &want.answer) {
-            (Some(port), _) => Subject { port, image: &self.image, volume, call: &call }.check(&want, &mut self.random),
+            (Some(port), _) => Subject { port, image, volume, call: &call }.check(&want, &mut self.random),
             (None, Answer::Panic(m)) => Err(format!("the oracle panicked: {m}")),
             (None, _) => Ok(()),
         };

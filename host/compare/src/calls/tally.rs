@@ -11,6 +11,9 @@ pub struct Tally {
     pub seen: BTreeMap<(&'static str, Kind), u64>,
 }
 
+/// Of images without NXSB.
+const NO_PARTITION_TABLE: u64 = 11;
+
 /// What a run must have seen of each call.
 fn wanted(call: &str) -> Vec<Kind> {
     use Kind::{Added, Answered, Refused};
@@ -26,7 +29,8 @@ fn wanted(call: &str) -> Vec<Kind> {
         _ => (&["hole", "extent", "past the end"], &[8]),
     };
     let kinds = kinds.iter().map(|k| Answered(k));
-    kinds.chain((1..=4).map(Refused)).chain(added.iter().map(|&n| Added(n))).collect()
+    let added = added.iter().copied().chain([NO_PARTITION_TABLE]);
+    kinds.chain((1..=4).map(Refused)).chain(added.map(Added)).collect()
 }
 
 impl Tally {

@@ -9,7 +9,7 @@ use crate::calls::Port;
 use sticks::random::Random;
 
 const LARGEST: usize = 1 << 34;
-const NO_CONTAINER: u64 = 4;
+const NO_PARTITION_TABLE: u64 = 11;
 const TOO_LARGE: u64 = 7;
 
 /// How many calls on an image are refused with the number, as they must be.
@@ -29,7 +29,7 @@ pub fn over(on: Agreed) -> Result<Option<u64>, String> {
         return Ok(None);
     }
     let all = unsafe { std::slice::from_raw_parts(memory, LARGEST + 1) };
-    let agreed = on(&all[..LARGEST], NO_CONTAINER).and_then(|n| Ok(n + on(all, TOO_LARGE)?));
+    let agreed = on(&all[..LARGEST], NO_PARTITION_TABLE).and_then(|n| Ok(n + on(all, TOO_LARGE)?));
     unsafe { dealloc(memory, layout) };
     agreed.map(Some)
 }

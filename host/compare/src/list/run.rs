@@ -7,13 +7,13 @@ use sticks::random::Random;
 use sticks::Stick;
 
 use crate::calls::run::damaged;
+use crate::image::Image;
 use crate::list::buffers::lengths;
 use crate::list::check::{Mismatch, Subject};
 use crate::list::tally::Tally;
 use crate::list::trace::{End, Trace};
 use crate::list::{edges, walk, Port};
-use crate::opening::answer::{self, caught};
-use crate::opening::outside::outside;
+use crate::opening::answer;
 use crate::opening::run::stick_seed;
 use crate::opening::shrink::shrink;
 
@@ -40,7 +40,7 @@ pub struct Run {
     pub failure: Option<Failure>,
 }
 
-type Checked = Result<(), (u64, Mismatch)>;
+pub type Checked = Result<(), (u64, Mismatch)>;
 
 impl Run {
     /// Over `count` sticks; without a port the oracle is asked alone. Stops at the first failure.
@@ -51,10 +51,10 @@ impl Run {
             for damage in 0..=DAMAGES {
                 let of = whole.plan.seed;
                 let image = if damage == 0 { whole.image.clone() } else { damaged(&whole.image, of, damage) };
-                let image = Arc::new(image);
+                let image = Image::of(image);
                 let random = Random::new(of.wrapping_mul(31).wrapping_add(damage));
                 if let Err((volume, mismatch)) = run.image(&image, port, random) {
-                    run.failure = Some(Failure { seed, stick, damage, volume, mismatch, image });
+                    run.failure = Some(Failure { seed, stick, damage, volume, mismatch, image: image.whole });
                     return run;
                 }
             }
@@ -65,26 +65,25 @@ impl Run {
     /// Chains of directories about as deep as may be, and others that end late or never.
     pub fn edges(&mut self, port: Option<Port>) {
         for (i, image) in edges::images().into_iter().enumerate() {
-            let (seed, stick, image) = (0, i as u64, Arc::new(image));
+            let (seed, stick, image) = (0, i as u64, Image::of(image));
             if let Err((volume, mismatch)) = self.image(&image, port, Random::new(stick)) {
-                self.failure = Some(Failure { seed, stick, damage: 0, volume, mismatch, image });
+                self.failure = Some(Failure { seed, stick, damage: 0, volume, mismatch, image: image.whole });
                 return;
             }
         }
     }
 
     /// Every volume of the image, and one that it has not.
-    pub fn image(&mut self, image: &Arc<Vec<u8>>, port: Option<Port>, random: Random) -> Checked {
+    pub fn image(&mut self, image: &Image, port: Option<Port>, random: Random) -> Checked {
         self.images += 1;
-        let mut trial = Trial { image, port, random, tally: &mut self.tally };
-        let opened = if outside(image).is_some() { None } else { caught(|| answer::container(image)).ok() };
-        let Some(Ok(c)) = opened else { return trial.judge(0, walk::of_image(image, 0)) };
+        let mut trial = Trial { image: &image.whole, port, random, tally: &mut self.tally };
+        let Some((part, c)) = answer::opened(image) else { return trial.judge(0, walk::of_image(image, 0)) };
         let slots = (c.sb.fs_oids.len() as u64).min(VOLUMES);
         for i in 0..slots {
-            trial.judge(i, walk::of_container(image, &c, i))?;
+            trial.judge(i, walk::of_container(&part, &c, i))?;
         }
         let none = trial.random.pick(&[c.sb.fs_oids.len() as u64, u64::MAX]);
-        trial.judge(none, walk::of_container(image, &c, none))
+        trial.judge(none, walk::of_container(&part, &c, none))
     }
 
     /// Prints the failure, if there was one, and writes its image, made smaller, to a file in `folder`.
@@ -111,9 +110,9 @@ fn kind(m: &Mismatch) -> (i64, i64) {
 /// The image with all gone that the failure, of the same kind, can do without.
 fn smaller(f: &Failure, port: Port) -> Vec<u8> {
     let fails = |b: &[u8]| {
-        let image = Arc::new(b.to_vec());
+        let image = Image::of(b.to_vec());
         let trace = walk::of_image(&image, f.volume);
-        let subject = Subject { port, image: &image, volume: f.volume };
+        let subject = Subject { port, image: &image.whole, volume: f.volume };
         let mut tried = lengths(&trace, &mut Random::new(1));
         tried.push(f.mismatch.length);
         let same = |m: Mismatch| kind(&m) == kind(&f.mismatch);

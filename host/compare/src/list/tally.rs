@@ -28,7 +28,7 @@ pub struct Tally {
 }
 
 /// Refusals that a run must have seen.
-const WANTED: [u64; 7] = [1, 2, 3, 4, 6, 8, 10];
+const WANTED: [u64; 8] = [1, 2, 3, 4, 6, 8, 10, 11];
 
 fn named(e: &End) -> String {
     match e {

@@ -1,13 +1,12 @@
 //! A listing rebuilt from the oracle's calls, in document 01's order.
 
-use std::sync::Arc;
-
 use oracle::fs::{Inode, Volume};
 use oracle::nx::Container;
 use oracle::probe;
 
 use crate::calls::expected::Stop;
 use crate::calls::{line, stream};
+use crate::image::Image;
 use crate::list::file;
 use crate::list::trace::{End, Trace, LONGEST};
 use crate::opening::answer::{self, caught};
@@ -55,37 +54,41 @@ fn stopped(a: answer::Answer, opened: bool) -> End {
     }
 }
 
-/// Of an image that nothing is known of.
-pub fn of_image(image: &Arc<Vec<u8>>, volume: u64) -> Trace {
-    if outside(image).is_some() {
+/// Of an image that no more is known of than its part.
+pub fn of_image(image: &Image, volume: u64) -> Trace {
+    let part = match &image.part {
+        Ok(part) => part,
+        Err(number) => return Trace::only(End::Refused(*number)),
+    };
+    if outside(part).is_some() {
         return Trace::only(End::Open("ring or maps too large"));
     }
-    match caught(|| answer::container(image)) {
-        Ok(Ok(c)) => of_container(image, &c, volume),
+    match caught(|| answer::container(part)) {
+        Ok(Ok(c)) => of_container(part, &c, volume),
         Ok(Err(e)) => Trace::only(End::Refused(probe::class(&e))),
         Err(a) => Trace::only(stopped(a, false)),
     }
 }
 
-pub fn of_container(image: &[u8], c: &Container, volume: u64) -> Trace {
-    with_room(image, c, volume, LONGEST)
+pub fn of_container(part: &[u8], c: &Container, volume: u64) -> Trace {
+    with_room(part, c, volume, LONGEST)
 }
 
 /// A text of more than `room` bytes is not followed to its end.
-pub fn with_room(image: &[u8], c: &Container, volume: u64, room: usize) -> Trace {
+pub fn with_room(part: &[u8], c: &Container, volume: u64, room: usize) -> Trace {
     let v = match caught(|| c.volume(volume as usize)) {
         Ok(Ok(v)) => v,
         Ok(Err(e)) => return Trace::only(End::Refused(probe::class(&e))),
         Err(a) => return Trace::only(stopped(a, true)),
     };
-    let mut walk = Walk { image, c, v: &v, room, text: Vec::new(), depth: None, weight: 0 };
+    let mut walk = Walk { part, c, v: &v, room, text: Vec::new(), depth: None, weight: 0 };
     let walked = caught(|| walk.volume());
     let end = walked.map_or_else(|a| stopped(a, true), End::from);
     Trace { text: walk.text, depth: walk.depth, weight: walk.weight, end }
 }
 
 struct Walk<'w> {
-    image: &'w [u8],
+    part: &'w [u8],
     c: &'w Container,
     v: &'w Volume<'w>,
     room: usize,
@@ -122,7 +125,7 @@ impl Walk<'_> {
         let attributes = self.v.xattrs(id)?;
         let entries = self.v.read_dir(id)?;
         for x in &attributes {
-            match stream::data(self.image, self.c, self.v, x)? {
+            match stream::data(self.part, self.c, self.v, x)? {
                 stream::Data::Whole(data) => self.line(&line::attribute(x, &data))?,
                 stream::Data::Long(_) => return Err(Halt::LongLine),
             }
@@ -140,7 +143,7 @@ impl Walk<'_> {
         if inode.is_compressed() {
             return self.line("(packed)\n");
         }
-        match file::contents(self.image, self.c, self.v, inode)? {
+        match file::contents(self.part, self.c, self.v, inode)? {
             Some(bytes) => self.line(&format!("(data {})\n", line::hex(&bytes))),
             None => Err(Halt::LongLine),
         }

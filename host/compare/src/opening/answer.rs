@@ -8,6 +8,9 @@ use oracle::dev::Shared;
 use oracle::nx::Container;
 use oracle::probe;
 
+use crate::image::Image;
+use crate::opening::outside::outside;
+
 #[derive(Clone, Debug, PartialEq, Eq)]
 pub enum Answer {
     Text(String),
@@ -41,6 +44,13 @@ pub fn container(image: &Arc<Vec<u8>>) -> oracle::error::Result<Container> {
     Container::open(Box::new(Shared(Arc::clone(image))))
 }
 
+/// The image's part and the container in it, where the oracle can be asked and opens it.
+pub fn opened(image: &Image) -> Option<(Arc<Vec<u8>>, Container)> {
+    let part = image.part.as_ref().ok().filter(|part| outside(part).is_none())?;
+    let c = caught(|| container(part)).ok()?.ok()?;
+    Some((Arc::clone(part), c))
+}
+
 /// What `f` answers, or what became of it.
 pub fn caught<T>(f: impl FnOnce() -> T) -> Result<T, Answer> {
     catch_unwind(AssertUnwindSafe(f)).map_err(|payload| {
@@ -57,12 +67,21 @@ pub fn caught<T>(f: impl FnOnce() -> T) -> Result<T, Answer> {
     })
 }
 
-pub fn open(image: &Arc<Vec<u8>>) -> Answer {
-    caught(|| match container(image) {
+/// Of a part, or of an image that is its own.
+pub fn open(part: &Arc<Vec<u8>>) -> Answer {
+    caught(|| match container(part) {
         Ok(c) => Answer::Text(text(&c)),
         Err(e) => Answer::Refused(probe::class(&e)),
     })
     .unwrap_or_else(|a| a)
+}
+
+/// Of an image whose part the oracle can be asked about.
+pub fn of_image(image: &Image) -> Answer {
+    match &image.part {
+        Ok(part) => open(part),
+        Err(number) => Answer::Refused(*number),
+    }
 }
 
 /// The oracle's panics are caught and counted; their messages need not be printed.

@@ -1,5 +1,6 @@
 //! Holds the port's answer, and all of the buffer, against the oracle's.
 
+use crate::calls::check::{pattern, REFUSALS};
 use crate::opening::answer::Answer;
 use crate::opening::outside::Outside;
 use crate::opening::Open;
@@ -8,11 +9,6 @@ use crate::opening::Open;
 const LONG: usize = 2200;
 const TOO_SHORT: i64 = -6;
 const OVERFLOW: i64 = -8;
-const REFUSALS: std::ops::RangeInclusive<i64> = -10..=-1;
-
-fn pattern(n: usize) -> Vec<u8> {
-    (0..n).map(|i| (i * 37 + 11) as u8).collect()
-}
 
 /// One call with a buffer of `n` bytes: the result must be `want`, and the buffer start with `text`
 /// and be untouched after it.

@@ -1,10 +1,10 @@
 //! A run over many sticks.
 
 use std::path::Path;
-use std::sync::Arc;
 
 use sticks::{damage_at, Aim, Stick};
 
+use crate::image::Image;
 use crate::opening::answer::{self, Answer};
 use crate::opening::check::{check, check_outside};
 use crate::opening::outside::outside;
@@ -74,12 +74,12 @@ impl Run {
     }
 
     fn one(&mut self, seed: u64, damage: u64, image: Vec<u8>, port: Option<Open>) {
-        let image = Arc::new(image);
+        let image = Image::of(image);
         let tally = if damage == 0 { &mut self.whole } else { &mut self.damaged };
         let Err(first) = judge(&image, port, Some(tally)) else { return };
-        let fails = |b: &[u8]| judge(&Arc::new(b.to_vec()), port, None).is_err_and(|m| m.kind() == first.kind());
-        let image = shrink(image.to_vec(), &fails);
-        let mismatch = judge(&Arc::new(image.clone()), port, None).err().unwrap_or(first);
+        let fails = |b: &[u8]| judge(&Image::of(b.to_vec()), port, None).is_err_and(|m| m.kind() == first.kind());
+        let image = shrink(image.whole.to_vec(), &fails);
+        let mismatch = judge(&Image::of(image.clone()), port, None).err().unwrap_or(first);
         self.failure = Some(Failure { seed, damage, image, mismatch });
     }
 
@@ -97,22 +97,23 @@ impl Run {
     }
 }
 
-fn judge(image: &Arc<Vec<u8>>, port: Option<Open>, tally: Option<&mut Tally>) -> Result<(), Mismatch> {
-    if let Some(why) = outside(image) {
+/// The port is asked about the image, the oracle about its part.
+pub fn judge(image: &Image, port: Option<Open>, tally: Option<&mut Tally>) -> Result<(), Mismatch> {
+    if let Some(why) = image.part.as_ref().ok().and_then(|part| outside(part)) {
         if let Some(t) = tally {
             t.skip(why);
         }
-        let result = port.map_or(Ok(()), |p| check_outside(p, image, why));
+        let result = port.map_or(Ok(()), |p| check_outside(p, &image.whole, why));
         return result.map_err(|got| Mismatch { expected: format!("not asked, {why:?}"), got });
     }
-    let want = answer::open(image);
+    let want = answer::of_image(image);
     if let Some(t) = tally {
         t.count(&want);
     }
     let result = match (&want, port) {
         (Answer::Panic(_), None) => Err("not asked".into()),
         (_, None) => Ok(()),
-        (_, Some(p)) => check(p, image, &want),
+        (_, Some(p)) => check(p, &image.whole, &want),
     };
     result.map_err(|got| Mismatch { expected: want.to_string(), got })
 }

@@ -1,5 +1,6 @@
 //! How many of each answer were seen.
 
+use std::collections::BTreeMap;
 use std::fmt;
 
 use crate::opening::answer::Answer;
@@ -8,19 +9,22 @@ use crate::opening::outside::Outside;
 #[derive(Clone, Debug, Default)]
 pub struct Tally {
     pub opened: u64,
-    /// By refusal, 1 to 4.
-    pub refused: [u64; 4],
+    /// By the refusal's number.
+    pub refused: BTreeMap<u64, u64>,
     pub overflow: u64,
     pub panics: u64,
     pub large_ring: u64,
     pub endless_maps: u64,
 }
 
+/// Of images without a table: 4 is said of a part alone.
+const WANTED: [u64; 4] = [1, 2, 3, 11];
+
 impl Tally {
     pub fn count(&mut self, a: &Answer) {
         match a {
             Answer::Text(_) => self.opened += 1,
-            Answer::Refused(n) => self.refused[*n as usize - 1] += 1,
+            Answer::Refused(n) => *self.refused.entry(*n).or_default() += 1,
             Answer::Overflow => self.overflow += 1,
             Answer::Panic(_) => self.panics += 1,
         }
@@ -33,20 +37,24 @@ impl Tally {
         }
     }
 
-    /// Success and the refusals 1 to 4 that were never seen, by name.
+    /// Success and refusals of images without a table that were never seen, by name.
     pub fn missing(&self) -> Vec<String> {
+        self.missing_of(&WANTED)
+    }
+
+    /// The same of these refusals.
+    pub fn missing_of(&self, wanted: &[u64]) -> Vec<String> {
         let opened = (self.opened == 0).then(|| "opened".to_string());
-        let refused = (0..4).filter(|&i| self.refused[i] == 0).map(|i| format!("refused with {}", i + 1));
+        let refused = wanted.iter().filter(|n| !self.refused.contains_key(n)).map(|n| format!("refused with {n}"));
         opened.into_iter().chain(refused).collect()
     }
 }
 
 impl fmt::Display for Tally {
     fn fmt(&self, f: &mut fmt::Formatter) -> fmt::Result {
-        let [io, corrupt, unsupported, not_found] = self.refused;
-        let compared = self.opened + self.refused.iter().sum::<u64>();
-        write!(f, "{compared} within the domain: opened {}; refused with 1 {io}, ", self.opened)?;
-        write!(f, "2 {corrupt}, 3 {unsupported}, 4 {not_found}; ")?;
+        let compared = self.opened + self.refused.values().sum::<u64>();
+        let refused: Vec<String> = self.refused.iter().map(|(number, n)| format!("{number} {n}")).collect();
+        write!(f, "{compared} within the domain: opened {}; refused with {}; ", self.opened, refused.join(", "))?;
         write!(f, "outside it: overflow {}, ring too large {}, ", self.overflow, self.large_ring)?;
         write!(f, "maps without end {}; panics {}", self.endless_maps, self.panics)
     }

@@ -1,9 +1,8 @@
 //! The oracle in the port's place.
 
-use std::sync::Arc;
-
 use crate::calls::call::Call;
 use crate::calls::expected::{self, Answer};
+use crate::image::Image;
 use crate::list::walk;
 
 fn refused(out: &mut [u8], number: u64, wiped: bool) -> i64 {
@@ -19,7 +18,7 @@ fn fill(out: &mut [u8], bytes: &[u8]) -> i64 {
 }
 
 pub fn list(image: &[u8], volume: u64, out: &mut [u8]) -> i64 {
-    let trace = walk::of_image(&Arc::new(image.to_vec()), volume);
+    let trace = walk::of_image(&Image::of(image.to_vec()), volume);
     match trace.refusal(out.len()) {
         Some(number) => refused(out, number, true),
         None => fill(out, &trace.text),
@@ -27,7 +26,7 @@ pub fn list(image: &[u8], volume: u64, out: &mut [u8]) -> i64 {
 }
 
 pub fn call(image: &[u8], volume: u64, call: &Call, out: &mut [u8]) -> i64 {
-    match expected::of_image(&Arc::new(image.to_vec()), volume, call).answer {
+    match expected::of_image(&Image::of(image.to_vec()), volume, call).answer {
         Answer::Bytes(b) if b.len() > out.len() => refused(out, 6, false),
         Answer::Bytes(b) => fill(out, &b),
         Answer::Refused(number) => refused(out, number, false),

@@ -1,10 +1,10 @@
 //! What a call must answer.
 
 use std::fmt;
-use std::sync::Arc;
 
 use crate::calls::call::Call;
 use crate::calls::expected::{self, Answer};
+use crate::image::Image;
 use crate::list::trace::End;
 use crate::list::walk;
 use crate::opening::answer;
@@ -62,7 +62,7 @@ fn within(bytes: Vec<u8>, room: usize) -> Told {
 }
 
 /// None where neither the oracle nor document 01 tells.
-pub fn told(image: &Arc<Vec<u8>>, q: &Question) -> Option<Told> {
+pub fn told(image: &Image, q: &Question) -> Option<Told> {
     match &q.asked {
         Asked::Open => open(image, q.room),
         Asked::Call(call) => match expected::of_image(image, q.volume, call).answer {
@@ -74,18 +74,18 @@ pub fn told(image: &Arc<Vec<u8>>, q: &Question) -> Option<Told> {
     }
 }
 
-fn open(image: &Arc<Vec<u8>>, room: usize) -> Option<Told> {
-    if outside(image).is_some() {
+fn open(image: &Image, room: usize) -> Option<Told> {
+    if image.part.as_ref().is_ok_and(|part| outside(part).is_some()) {
         return None;
     }
-    match answer::open(image) {
+    match answer::of_image(image) {
         answer::Answer::Text(text) => Some(within(text.into_bytes(), room)),
         answer::Answer::Refused(n) => Some(Told::Refused(n)),
         answer::Answer::Overflow | answer::Answer::Panic(_) => None,
     }
 }
 
-fn list(image: &Arc<Vec<u8>>, volume: u64, room: usize) -> Option<Told> {
+fn list(image: &Image, volume: u64, room: usize) -> Option<Told> {
     let trace = walk::of_image(image, volume);
     match (trace.refusal(room), trace.end) {
         (Some(n), _) => Some(Told::Refused(n)),

@@ -1,7 +1,6 @@
 //! Calls on drawn sticks, whole and damaged: so many of each kind of answer.
 
 use std::collections::BTreeMap;
-use std::sync::Arc;
 
 use sticks::contents::LINK_ATTRIBUTE;
 use sticks::random::Random;
@@ -10,9 +9,9 @@ use sticks::Stick;
 use crate::calls::call::Call;
 use crate::calls::lists::Lists;
 use crate::calls::{draw, expected, run};
+use crate::image::Image;
 use crate::opening;
 use crate::opening::answer::{self, caught};
-use crate::opening::outside::outside;
 use crate::opening::run::stick_seed;
 use crate::recorded::asked::{told, Asked, Question, Told};
 use crate::recorded::file::{self, File};
@@ -46,7 +45,7 @@ pub fn write(seed: u64, file: &mut File) {
             let image = spoil(&stick.image, stick.plan.seed);
             if image.len() <= file::LONGEST && image.iter().filter(|&&b| b != 0).count() <= FULLEST {
                 kept.offer(
-                    Drawing { image: Arc::new(image), random: Random::new(stick.plan.seed) }.questions(&stick),
+                    Drawing { image: Image::of(image), random: Random::new(stick.plan.seed) }.questions(&stick),
                     file,
                 );
             }
@@ -68,7 +67,7 @@ struct Asking {
 
 impl Kept {
     /// Those of a stick that are of a rare kind go into the file, if they are enough.
-    fn offer(&mut self, (image, list): (Arc<Vec<u8>>, Vec<Asking>), file: &mut File) {
+    fn offer(&mut self, (image, list): (Image, Vec<Asking>), file: &mut File) {
         let mut kinds = self.kinds.clone();
         let mut rare = |a: &Asking| {
             let n = kinds.entry((a.question.asked.name(), a.kind.clone())).or_default();
@@ -79,7 +78,7 @@ impl Kept {
         if keep.len() < AT_LEAST {
             return;
         }
-        file.image(&image);
+        file.image(&image.whole);
         for a in keep {
             *self.kinds.entry((a.question.asked.name(), a.kind.clone())).or_default() += 1;
             file.call(&a.question, &a.told);
@@ -88,27 +87,22 @@ impl Kept {
 }
 
 struct Drawing {
-    image: Arc<Vec<u8>>,
+    image: Image,
     random: Random,
 }
 
 impl Drawing {
     /// The image, and calls that the oracle or document 01 tells the answers of.
-    fn questions(mut self, stick: &Stick) -> (Arc<Vec<u8>>, Vec<Asking>) {
+    fn questions(mut self, stick: &Stick) -> (Image, Vec<Asking>) {
         let mut out = Vec::new();
         self.ask(0, Asked::Open, &mut out);
-        let image = Arc::clone(&self.image);
-        let opened = if outside(&image).is_some() { None } else { caught(|| answer::container(&image)).ok() };
-        let slots = match opened {
-            Some(Ok(c)) => c.sb.fs_oids.len() as u64,
-            _ => 0,
-        };
+        let slots = answer::opened(&self.image).map_or(0, |(_, c)| c.sb.fs_oids.len() as u64);
         for volume in 0..slots.min(VOLUMES) {
             self.volume(stick, volume, &mut out);
         }
         let none = self.random.pick(&[slots, slots, u64::MAX]);
         self.each(none, &mut out);
-        (image, out)
+        (self.image, out)
     }
 
     /// One call of each kind.
@@ -125,8 +119,7 @@ impl Drawing {
         let mut calls = draw::lookups(&plan.contents, &mut self.random);
         let links = plan.contents.files.iter().filter(|f| f.attributes.iter().any(|a| a.name == LINK_ATTRIBUTE));
         calls.extend(links.map(|f| Call::Link { id: f.inode.id }));
-        let image = Arc::clone(&self.image);
-        if let Ok(Ok(c)) = caught(|| answer::container(&image)) {
+        if let Some((_, c)) = answer::opened(&self.image) {
             if let Ok(Ok(v)) = caught(|| c.volume(volume as usize)) {
                 for id in draw::ids(&plan.contents, &mut self.random) {
                     let lists = Lists::of(&v, id);

@@ -3,6 +3,7 @@
 
 use std::sync::Arc;
 
+use compare::image::Image;
 use compare::list::run::Run;
 use compare::list::trace::{End, Trace};
 use compare::list::{edges, walk};
@@ -71,7 +72,7 @@ const EXAMPLE: &str = "(volume 1 0 x41\n(node 2 1 2 0 0 0 0 0 0 0 0 0 16877 - -\
 
 #[test]
 fn document_01_gives_an_example() {
-    let t = walk::of_image(&example(), 0);
+    let t = walk::of_image(&Image::of(example()), 0);
     assert_eq!((String::from_utf8_lossy(&t.text).as_ref(), &t.end, t.depth), (EXAMPLE, &End::Whole, Some(0)));
     #[cfg(feature = "calls")]
     {
@@ -96,9 +97,9 @@ fn a_vast_image_is_told_from_one_at_the_bound() {
         out.fill(0);
         -number
     };
-    let right = |image: &[u8], _: u64, out: &mut [u8]| wiped(out, if image.len() > 1 << 34 { 7 } else { 4 });
+    let right = |image: &[u8], _: u64, out: &mut [u8]| wiped(out, if image.len() > 1 << 34 { 7 } else { 11 });
     let Some(agreed) = edges::vast(&right).expect("no mistake") else { return };
     assert!(agreed > 3);
-    assert!(edges::vast(&|_, _, out| wiped(out, 4)).is_err());
-    assert!(edges::vast(&|image, _, _| if image.len() > 1 << 34 { -7 } else { -4 }).is_err());
+    assert!(edges::vast(&|_, _, out| wiped(out, 11)).is_err());
+    assert!(edges::vast(&|image, _, _| if image.len() > 1 << 34 { -7 } else { -11 }).is_err());
 }

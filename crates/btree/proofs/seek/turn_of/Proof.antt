@@ -1,4 +1,5 @@
 use borrow.Author.Needs.{needs}
+use Rattle.btree.proofs.Turns.{turn-no}
 use Rattle.btree.proofs.seek.turn_of.Statement.{statement}
 use Rattle.btree.proofs.seek.turn_of.Tie as tie
 
@@ -9,4 +10,4 @@ turn-of-spec =
     (λ c. search needs)
     (λ c. search needs)
     (λ c. cc)
-    (λ c. cc))
+    (λ c. search (needs, turn-no)))

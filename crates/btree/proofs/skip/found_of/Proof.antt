@@ -1,4 +1,5 @@
 use borrow.Author.Needs.{needs}
+use Rattle.btree.proofs.Nth.{found-no}
 use Rattle.btree.proofs.skip.found_of.Statement.{statement}
 use Rattle.btree.proofs.skip.found_of.Tie as tie
 
@@ -13,4 +14,4 @@ found-of-spec =
     (λ c. cc)
     (λ c. search needs)
     (λ c. search needs)
-    (λ c. cc))
+    (λ c. search (needs, found-no)))

@@ -1,4 +1,5 @@
 use borrow.Author.Needs.{needs}
+use Rattle.cursor.proofs.Left.{in-whole-no}
 use Rattle.cursor.proofs.steps.in_whole.Statement.{statement}
 use Rattle.cursor.proofs.steps.in_whole.Tie as tie
 
@@ -13,4 +14,4 @@ in-whole-spec =
     (λ c. cc)
     (λ c. search needs)
     (λ c. search needs)
-    (λ c. cc))
+    (λ c. search (needs, in-whole-no)))

@@ -1,4 +1,5 @@
 use borrow.Author.Needs.{needs}
+use Rattle.paths.proofs.Chosen.{settle-no}
 use Rattle.paths.proofs.choose.settle.Statement.{statement}
 use Rattle.paths.proofs.choose.settle.Tie as tie
 
@@ -13,4 +14,4 @@ settle-spec =
     (λ c. cc)
     (λ c. cc)
     (λ c. cc)
-    (λ c. cc))
+    (λ c. search (needs, settle-no)))

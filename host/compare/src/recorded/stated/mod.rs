@@ -1,4 +1,5 @@
-//! Document 01's cases, each with what the paper says of it, and small sticks that show them.
+//! Document 01's cases and those of partition tables, each with what the papers say of it, and small sticks that show
+//! them.
 
 mod listing;
 mod opening;
@@ -6,12 +7,12 @@ mod paths;
 mod reads;
 mod records;
 mod stick;
+mod tables;
 mod trees;
 mod volumes;
 
-use std::sync::Arc;
-
 use crate::calls::call::Call;
+use crate::image::Image;
 use crate::recorded::asked::{told, Asked, Question, Told};
 use crate::recorded::file::File;
 
@@ -73,7 +74,7 @@ impl Stated {
     }
 
     /// The answer to record. The oracle must say what the paper says, where it says anything.
-    fn answer(self, image: &Arc<Vec<u8>>) -> Result<(Question, Told), String> {
+    fn answer(self, image: &Image) -> Result<(Question, Told), String> {
         let by_oracle = told(image, &self.question);
         let said = match (self.said, &by_oracle) {
             (Said::Refused(n), _) => Told::Refused(n),
@@ -92,6 +93,7 @@ impl Stated {
 pub fn groups() -> Vec<Group> {
     [
         opening::groups(),
+        tables::groups(),
         volumes::groups(),
         trees::groups(),
         records::groups(),
@@ -110,8 +112,8 @@ pub fn write(file: &mut File) -> Result<(), String> {
     for group in groups() {
         file.title(group.title);
         for (image, cases) in group.cases {
-            let image = Arc::new(image);
             file.image(&image);
+            let image = Image::of(image);
             for case in cases {
                 match case.answer(&image) {
                     Ok((question, told)) => file.call(&question, &told),

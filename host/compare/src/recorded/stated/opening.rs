@@ -55,9 +55,9 @@ fn start() -> Group {
         opened(Vec::new(), Refused(1)),
         opened(cut(&empty(), 4095), Refused(1)),
         opened(cut(&no_magic, 4095), Refused(1)),
-        opened(cut(&no_magic, 4096), Refused(4)),
-        opened(no_magic, Refused(4)),
-        opened(neither, Refused(4)),
+        opened(cut(&no_magic, 4096), Refused(11)),
+        opened(no_magic, Refused(11)),
+        opened(neither, Refused(11)),
     ];
     group("the first 4,096 bytes, then NXSB", cases)
 }

@@ -146,9 +146,9 @@ impl Stand<'_> {
         let first = block.checked_add(skip / bs).and_then(|b| b.checked_mul(bs)).ok_or(8)?;
         let end = first.checked_add((skip % bs + n).next_multiple_of(bs));
         let part = if self.has(M::PartBlocksRead) { first.checked_add(skip % bs + n) } else { end };
-        test(part.is_some_and(|end| end <= self.image.len() as u64), 1)?;
+        test(part.is_some_and(|end| end <= self.part.len() as u64), 1)?;
         let at = (first + skip % bs) as usize;
-        Ok(&self.image[at..at + n as usize])
+        Ok(&self.part[at..at + n as usize])
     }
 
     pub fn read(&self, id: u64, offset: u64, buffer: &[u8]) -> Answer<Vec<u8>> {

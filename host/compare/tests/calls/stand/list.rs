@@ -6,7 +6,7 @@ use oracle::probe;
 use super::files::LONGEST;
 use super::mistake::Mistake;
 use super::records::{Attribute, Data, Entry, Extent, Inode};
-use super::{class, open, test, Answer, Stand};
+use super::{class, open, test, Answer, Opened, Stand};
 
 #[derive(Clone, Copy, Debug, PartialEq, Eq)]
 pub enum Slip {
@@ -196,10 +196,10 @@ impl Lister<'_> {
 
 pub fn answer(image: &[u8], volume: u64, out: &mut [u8], slip: Slip) -> i64 {
     let mut text = Vec::new();
-    let found = open(image).and_then(|c| {
+    let found = open(image).and_then(|Opened { part, c }| {
         let listed = caught(|| {
             let v = c.volume(volume as usize).map_err(class)?;
-            let stand = Stand { image, c: &c, v: &v, m: Mistake::None };
+            let stand = Stand { part: &part, c: &c, v: &v, m: Mistake::None };
             let mut lister = Lister { stand, room: out.len(), text: Vec::new(), slip };
             let listed = lister.volume();
             text = lister.text;

@@ -12,6 +12,7 @@ use std::sync::Arc;
 
 use compare::calls::call::Call;
 use compare::calls::line::hex;
+use compare::image::Image;
 use compare::opening::answer::{self, caught};
 use compare::opening::outside::outside;
 use mistake::Mistake;
@@ -37,7 +38,7 @@ pub fn class(e: Error) -> i64 {
 }
 
 pub struct Stand<'a> {
-    pub image: &'a [u8],
+    pub part: &'a [u8],
     pub c: &'a Container,
     pub v: &'a Volume<'a>,
     pub m: Mistake,
@@ -71,22 +72,28 @@ impl Stand<'_> {
     }
 }
 
-/// The last image's address and length, and its container, as many calls follow on one image. A run
-/// has no two in a row at one address.
-pub type Last = RefCell<Option<(*const u8, usize, Answer<Container>)>>;
-
-pub fn open(image: &[u8]) -> Answer<Container> {
-    let image = Arc::new(image.to_vec());
-    let c = if outside(&image).is_some() { Ok(Err(1)) } else { caught(|| answer::container(&image).map_err(class)) };
-    c.unwrap_or(Err(8))
+/// An image's part, and the container in it.
+pub struct Opened {
+    pub part: Arc<Vec<u8>>,
+    pub c: Container,
 }
 
-fn bytes(c: &Answer<Container>, image: &[u8], volume: u64, call: &Call, out: &[u8], m: Mistake) -> Answer<Vec<u8>> {
-    let c = c.as_ref().map_err(|n| *n)?;
+/// The last image's address and length, and its container, as many calls follow on one image. A run
+/// has no two in a row at one address.
+pub type Last = RefCell<Option<(*const u8, usize, Answer<Opened>)>>;
+
+pub fn open(image: &[u8]) -> Answer<Opened> {
+    let part = Image::of(image.to_vec()).part.map_err(|n| n as i64)?;
+    let c = if outside(&part).is_some() { Ok(Err(1)) } else { caught(|| answer::container(&part).map_err(class)) };
+    c.unwrap_or(Err(8)).map(|c| Opened { part, c })
+}
+
+fn bytes(opened: &Answer<Opened>, volume: u64, call: &Call, out: &[u8], m: Mistake) -> Answer<Vec<u8>> {
+    let Opened { part, c } = opened.as_ref().map_err(|n| *n)?;
     let overflow = if m == M::OverflowAsCorrupt { 2 } else { 8 };
     caught(|| {
         let v = c.volume(volume as usize).map_err(class)?;
-        Stand { image, c, v: &v, m }.bytes(call, out)
+        Stand { part, c, v: &v, m }.bytes(call, out)
     })
     .unwrap_or(Err(overflow))
 }
@@ -103,7 +110,7 @@ pub fn answer(last: &Last, image: &[u8], volume: u64, call: &Call, out: &mut [u8
         Some((at, n, c)) if (at, n) == of => c,
         _ => open(image),
     };
-    let found = bytes(&opened, image, volume, call, out, m);
+    let found = bytes(&opened, volume, call, out, m);
     *last = Some((of.0, of.1, opened));
     finish(found, matches!(call, Call::Read { .. }), out, m)
 }

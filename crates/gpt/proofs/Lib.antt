@@ -1,0 +1,6 @@
+pub mod Sums
+pub mod Headers
+pub mod Finding
+pub mod Part
+pub mod Sizes
+pub mod Examples
