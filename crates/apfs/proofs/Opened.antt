@@ -5,12 +5,11 @@ use mathlib.Core.Logic.{_⊎_, inl, inr, ⊎-elim}
 use mathlib.Core.List.{List, [], _++_}
 use lib.IntN.{pos}
 use lib.ListN.{length, drop}
-use lib.Seq.{take-length}
 use Rattle.error.specs.Answer.{Answer, got, no, _>>=_}
 use Rattle.error.specs.declared.Refusal.the-variants.{Unsupported}
 use Rattle.error.proofs.Laws.{le-cases, eq-cases}
 use Rattle.bytes.specs.Part.{partOf}
-use Rattle.gpt.proofs.Part.{whole, inside-small}
+use Rattle.gpt.proofs.Part.{whole, inside-small, part-self}
 use Rattle.lookup.specs.Counted.{Counted, after, from}
 use Rattle.lookup.specs.declared.map.Map.{Map}
 use Rattle.omap.specs.Load.{mapAt}
@@ -71,10 +70,6 @@ module _ (image out : List ℕ) where
 -- at the latest checkpoint of a part
 at-checkpoint : (part out : List ℕ) → length part ≤ 2 ^ 34 → BlockZeroRead part → Given part out (openText part)
 at-checkpoint part out h r = opened part out (latest-checkpoint .opening part h (latest-checkpoint .reading part .1 r))
-
-part-self : (image : List ℕ) → partOf image (record { start = 0; len = length image }) ≡ image
-unfolding partOf
-part-self image = take-length image
 
 pub apfs-opened : ApfsOpened
 apfs-opened = record {

@@ -1,7 +1,8 @@
 -- THE CHECKPOINT at the exported call: what `apfs_open` gives. Document 01, "Opening, in order", and document 02,
 -- request 01. It is proved, as `apfs-opened`, in proofs/Opened.antt.
 --
--- Of every image and the part of it that a container is in, where the part's block 0 is read and its descriptor area lies in it, and of every buffer: either some block of the ring is the latest, and the call gives the line of the container at that checkpoint, or the refusal of
+-- Of every image and the part of it that a container is in, where the part's block 0 is read and its descriptor area lies in it, and of every buffer:
+-- either some block of the ring is the latest, and the call gives the line of the container at that checkpoint, or the refusal of
 -- version 1, of Fusion, of the object map or of a buffer that is too short; or no block of the ring is a candidate, and the call gives -2. A refusal
 -- leaves the buffer as it was. An image of at most 2^34 bytes whose block 0 is so read is its own part; and where no part is found, the call gives minus
 -- the number of that refusal.

@@ -6,6 +6,7 @@ use mathlib.Core.List.{List}
 use native.Mathlib.Omega.{arith}
 use borrow.Author.Needs.{needs}
 use lib.ListN.{length}
+use lib.Seq.{take-length}
 use Rattle.error.specs.Answer.{Answer, got, no, pick}
 use Rattle.error.specs.declared.Refusal.{Refusal}
 use Rattle.error.specs.declared.Refusal.the-variants.{Io, ImageTooLarge}
@@ -15,7 +16,7 @@ use Rattle.bytes.specs.Part.{partOf}
 use Rattle.bytes.specs.declared.Span.{Span}
 use Rattle.bytes.proofs.Laws.{part-length}
 use Rattle.gpt.specs.Table.{tableTold, tableOf, isApfs, placeOf, entryIn}
-use Rattle.gpt.specs.Part.{partOfImage}
+use Rattle.gpt.specs.Part.{partOfImage, onPart}
 use Rattle.gpt.specs.declared.header.Table.{Table}
 use Rattle.gpt.specs.declared.header.TableRead.{TableRead}
 use Rattle.gpt.proofs.Headers.{Bounds, table-bounds}
@@ -102,7 +103,16 @@ inside-length image s e = let l : length (partOf image s) ≡ s .len = part-leng
 pub inside-small : (image : List ℕ) (s : Span) → partOfImage image ≡ got s → length (partOf image s) ≤ 2 ^ 34
 inside-small image s e = omega (arith, inside-length image s e .1, inside image s e .small)
 
--- so a host may pass the part in place of the image
+-- a part that begins a container is its own part
 pub again : (image : List ℕ) (s : Span) → partOfImage image ≡ got s → 4096 ≤ length (partOf image s) → little 4 (partOf image s) 32 ≡ 0x4253584E
     → partOfImage (partOf image s) ≡ got (record { start = 0; len = length (partOf image s) })
 again image s e k m = whole (partOf image s) (inside-small image s e) k m
+
+pub part-self : (b : List ℕ) → partOf b (record { start = 0; len = length b }) ≡ b
+unfolding partOf
+part-self b = take-length b
+
+-- so a host may pass the part in place of the image: every call answers the same
+pub passed : {A : Type 0} (f : List ℕ → Answer A) (image : List ℕ) (s : Span) → partOfImage image ≡ got s → 4096 ≤ length (partOf image s) → little 4 (partOf image s) 32 ≡ 0x4253584E
+    → onPart f (partOf image s) ≡ onPart f image
+passed f image s e k m = rw (again image s e k m, e, part-self (partOf image s))

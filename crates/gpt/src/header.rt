@@ -24,7 +24,7 @@ pub enum TableRead {
     No(Refusal),
 }
 
-pub fn sector(image: &[u8], lba: u64) -> &[u8]
+fn sector(image: &[u8], lba: u64) -> &[u8]
     requires { ⌜ (512 * lba + 512 ≤ length (now image)) × (length (now image) ≤ 2 ^ 34) ⌝ }
     ensures { λ r. ⌜ (now r ≡ sectorOf (now (image .entry)) lba) × (length (now r) ≡ 512) ⌝ }
 {
@@ -97,7 +97,7 @@ fn header_intact(h: &[u8], lba: u64) -> bool
     header_crc(h, len as usize) == four(h, 16)
 }
 
-pub fn is_intact(image: &[u8], lba: u64) -> bool
+fn is_intact(image: &[u8], lba: u64) -> bool
     requires { ⌜ (512 * lba + 512 ≤ length (now image)) × (length (now image) ≤ 2 ^ 34) ⌝ }
     ensures { λ r. ⌜ r ≡ intact (now (image .entry)) lba ⌝ }
 {
