@@ -7,7 +7,8 @@ use mathlib.Core.Option.{Option, none, some}
 use lib.ListN.{drop}
 use Rattle.error.specs.Answer.{Answer, got, no, _>>=_, pick}
 use Rattle.error.specs.declared.Refusal.the-variants.{Corrupt}
-use Rattle.utf8.specs.Text.{lossy, sameBytes}
+use Rattle.bytes.specs.Part.{upToZero}
+use Rattle.utf8.specs.Text.{lossy, Reading, reading, sameBytes}
 use Rattle.lookup.specs.Counted.{Counted, after, from, onto}
 use Rattle.volume.specs.Open.{volumeOfImage}
 use Rattle.volume.specs.declared.Volume.{Volume}
@@ -18,7 +19,7 @@ use Rattle.inode_record.specs.declared.inode.Inode.{Inode}
 use Rattle.lists.specs.Lists.{placed, elementAt, entriesOf, attributesOf, inodeOf}
 use Rattle.files.specs.File.{readFile}
 use Rattle.links.specs.Named.{hasName, named, attributeNamed}
-use Rattle.links.specs.Link.{contentsOf, textOf, targetOf, targetIn, symlinkName, linkOf}
+use Rattle.links.specs.Link.{contentsOf, targetOf, targetIn, symlinkName, linkReading, linkOf}
 use Rattle.paths.specs.Lookup.{lookupPath}
 use Rattle.lines.specs.Shown.{EntryShown, AttributeShown, inodeShown, entryShown, attributeShown}
 use Rattle.lines.specs.Lines.{nodeLine, entryLine, attributeLine}
@@ -56,7 +57,7 @@ labelled name (a ∷ l) = pick (sameBytes a.label name) (some a) (labelled name 
 
 abbrev pub linkIn : Option (AttributeShown (Answer (List ℕ))) → Answer (List ℕ)
 linkIn none = no Corrupt
-linkIn (some a) = a.contents >>= λ x. got (textOf x)
+linkIn (some a) = a.contents >>= λ x. got (lossy (upToZero x))
 
 -- the text of a link
 abbrev pub linkShown : View → ℕ → Answer (List ℕ)
@@ -132,29 +133,45 @@ module _ (image : List ℕ) (v : Volume) where
       of n (got l) = bytes-at k l n
       of n (no e) = refl
 
-  target-of : (a : Attribute) (s : ℕ) → targetOf image v a s .answer ≡ linkIn (some (withContents image v a))
-  unfolding targetOf attributeShown
-  target-of a s =
-      onto-answer (λ x t. after t (got (textOf x))) (λ x. got (textOf x)) (contentsOf image v a s) (contentsOf image v a 0 .answer) (contents-even image v a s 0) (λ x t. refl)
+  -- the text of a reading
+  texts : Answer Reading → Answer (List ℕ)
+  texts a = a >>= λ r. got (r .text)
 
-  link-in : (l : List Attribute) (s : ℕ) → targetIn image v (named (v .reader) image symlinkName l) s .answer ≡ linkIn (labelled symlinkName (map (withContents image v) l))
-  unfolding named labelled hasName attributeShown
+  target-of : (a : Attribute) (s : ℕ) → texts (targetOf image v a s .answer) ≡ linkIn (some (withContents image v a))
+  unfolding targetOf attributeShown texts
+  target-of a s =
+      ap texts (onto-answer (λ x t. after t (got (reading (upToZero x)))) (λ x. got (reading (upToZero x))) (contentsOf image v a s) (contentsOf image v a 0 .answer) (contents-even image v a s 0) (λ x t. refl))
+      ∙ of (contentsOf image v a 0 .answer)
+    where
+      of : (c : Answer (List ℕ)) → texts (c >>= λ x. got (reading (upToZero x))) ≡ (c >>= λ x. got (lossy (upToZero x)))
+      of (got x) = refl
+      of (no e) = refl
+
+  link-in : (l : List Attribute) (s : ℕ) → texts (targetIn image v (named (v .reader) image symlinkName l) s .answer) ≡ linkIn (labelled symlinkName (map (withContents image v) l))
+  unfolding named labelled hasName attributeShown texts
   link-in [] s = refl
   link-in (a ∷ l) s = of (sameBytes (lossy (attributeName (v .reader) image a)) symlinkName) (link-in l s)
     where
-      of : (d : Bool) → targetIn image v (named (v .reader) image symlinkName l) s .answer ≡ linkIn (labelled symlinkName (map (withContents image v) l))
-          → targetIn image v (pick d (some a) (named (v .reader) image symlinkName l)) s .answer
+      of : (d : Bool) → texts (targetIn image v (named (v .reader) image symlinkName l) s .answer) ≡ linkIn (labelled symlinkName (map (withContents image v) l))
+          → texts (targetIn image v (pick d (some a) (named (v .reader) image symlinkName l)) s .answer)
           ≡ linkIn (pick d (some (withContents image v a)) (labelled symlinkName (map (withContents image v) l)))
       of true h = target-of a s
       of false h = h
 
   link-of : (i : Inode) (s : ℕ) → linkOf image v i s .answer ≡ (attributesAnswer image v (i .id) >>= λ l. linkIn (labelled symlinkName l))
-  unfolding linkOf attributeNamed attributesAnswer
+  unfolding linkOf linkReading attributeNamed attributesAnswer texts
   link-of i s = rw (← attributes-even image v (i .id) s 0) (of (attributesOf image v (i .id) s .nodes) (attributesOf image v (i .id) s .answer))
     where
-      of : (n : ℕ) (a : Answer (List Attribute)) → (onto (onto (after n a) λ xs t. after t (got (named (v .reader) image symlinkName xs))) λ o t. targetIn image v o t) .answer
+      text : (c : Counted Reading) → (onto c λ r t. after t (got (r .text))) .answer ≡ texts (c .answer)
+      text c = told (c .nodes) (c .answer)
+        where
+          told : (n : ℕ) (a : Answer Reading) → (onto (after n a) λ r t. after t (got (r .text))) .answer ≡ texts a
+          told n (got r) = refl
+          told n (no e) = refl
+
+      of : (n : ℕ) (a : Answer (List Attribute)) → (onto (onto (onto (after n a) λ xs t. after t (got (named (v .reader) image symlinkName xs))) λ o t. targetIn image v o t) λ r t. after t (got (r .text))) .answer
           ≡ ((a >>= λ l. got (map (withContents image v) l)) >>= λ l. linkIn (labelled symlinkName l))
-      of n (got l) = link-in l n
+      of n (got l) = text (targetIn image v (named (v .reader) image symlinkName l) n) ∙ link-in l n
       of n (no e) = refl
 
   link-on : (id s : ℕ) → linkOn image v id s .answer ≡ linkShown (viewOf image v) id

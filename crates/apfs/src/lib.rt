@@ -19,6 +19,7 @@ use part_line::part_text;
 use reads::link_text;
 use reads::read_text;
 use reads::xattr_bytes;
+use replaced_line::replaced_text;
 ghost use mathlib.Core.Path.{_≡_};
 ghost use lib.ListN.{length};
 ghost use Rattle.gpt.specs.Part.{onPart};
@@ -30,6 +31,7 @@ ghost use Rattle.element_lines.specs.Elements.{lookupText, entryText, extentTex
 ghost use Rattle.entry_lines.specs.Entries.{entriesText};
 ghost use Rattle.attribute_lines.specs.Attributes.{attributeText};
 ghost use Rattle.reads.specs.Reads.{readText, linkText, xattrBytes};
+ghost use Rattle.replaced_line.specs.Line.{replacedText};
 ghost use Rattle.apfs.specs.Call.{number, resultOf, bufferOf};
 
 // The line of the part that a container is in.
@@ -136,6 +138,24 @@ pub extern "C" fn apfs_link(image: &[u8], volume: u64, id: u64, out: &mut [u8]) 
 {
     match part_of_image(image) {
         Sliced::Got(s) => result(link_text(part(image, s), volume, id, out)),
+        Sliced::No(e) => refused(e),
+    }
+}
+
+// How many parts of a name were replaced; of what name, its kind says.
+#[no_mangle]
+pub extern "C" fn apfs_replaced(
+    image: &[u8],
+    volume: u64,
+    kind: u64,
+    id: u64,
+    place: u64,
+    out: &mut [u8],
+) -> i64
+    ensures { λ r. ⌜ (r ≡ resultOf (onPart (λ p. replacedText p volume kind id place) (now (image .entry))) (now (out .entry))) × (now (out .exit) ≡ bufferOf (onPart (λ p. replacedText p volume kind id place) (now (image .entry))) (now (out .entry))) ⌝ }
+{
+    match part_of_image(image) {
+        Sliced::Got(s) => result(replaced_text(part(image, s), volume, kind, id, place, out)),
         Sliced::No(e) => refused(e),
     }
 }

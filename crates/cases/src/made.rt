@@ -1,5 +1,6 @@
 // A recorded call, made.
 use crate::record::Record;
+use crate::record::value;
 use apfs::apfs_entry;
 use apfs::apfs_extent;
 use apfs::apfs_link;
@@ -7,6 +8,7 @@ use apfs::apfs_list;
 use apfs::apfs_lookup;
 use apfs::apfs_open;
 use apfs::apfs_read;
+use apfs::apfs_replaced;
 use apfs::apfs_xattr;
 
 // No two bytes in a row are equal, so that one that is written where none may be shows.
@@ -20,16 +22,25 @@ fn written_on(out: &mut [u8]) {
     }
 }
 
-fn made(r: Record, image: &[u8], path: &[u8], out: &mut [u8]) -> i64 {
+// The input is a path, or a name's kind.
+fn made(r: Record, image: &[u8], input: &[u8], out: &mut [u8]) -> i64 {
     let op = r.op;
     match op {
         3 => apfs_open(image, out),
-        4 => apfs_lookup(image, r.volume, path, out),
+        4 => apfs_lookup(image, r.volume, input, out),
         5 => apfs_read(image, r.volume, r.a, r.b, out),
         6 => apfs_entry(image, r.volume, r.a, r.b, out),
         7 => apfs_xattr(image, r.volume, r.a, r.b, out),
         8 => apfs_link(image, r.volume, r.a, out),
         9 => apfs_extent(image, r.volume, r.a, r.b, out),
+        11 => apfs_replaced(
+            image,
+            r.volume,
+            value(bytes::u64_at(input, 0)),
+            r.a,
+            r.b,
+            out,
+        ),
         _ => apfs_list(image, r.volume, out),
     }
 }
@@ -51,9 +62,9 @@ fn wanted(r: Record) -> i64 {
 }
 
 // The result is the recorded one, and so is the sum of all the buffer.
-fn answers(r: Record, image: &[u8], path: &[u8], out: &mut [u8]) -> bool {
+fn answers(r: Record, image: &[u8], input: &[u8], out: &mut [u8]) -> bool {
     written_on(out);
-    let got = made(r, image, path, out);
+    let got = made(r, image, input, out);
     if got != wanted(r) {
         return false;
     }
@@ -61,16 +72,16 @@ fn answers(r: Record, image: &[u8], path: &[u8], out: &mut [u8]) -> bool {
 }
 
 // A call that no export has differs, and so does one with a buffer that is not to be had.
-pub fn agrees(r: Record, image: &[u8], path: &[u8], out: &mut [u8]) -> bool {
+pub fn agrees(r: Record, image: &[u8], input: &[u8], out: &mut [u8]) -> bool {
     let room = r.room;
     if r.op < 3 {
         return false;
     }
-    if 10 < r.op {
+    if 11 < r.op {
         return false;
     }
     if out.len() < room {
         return false;
     }
-    answers(r, image, path, &mut out[..room])
+    answers(r, image, input, &mut out[..room])
 }

@@ -19,7 +19,7 @@ fn kind_of(op: u8, refusal: u8) -> usize {
     if op < 3 {
         return 0;
     }
-    if 10 < op {
+    if 11 < op {
         return 0;
     }
     if 18 < refusal {
@@ -28,7 +28,7 @@ fn kind_of(op: u8, refusal: u8) -> usize {
     (op - 3) as usize * 19 + refusal as usize
 }
 
-pub fn counted(t: Tally, r: Record, same: bool, kinds: &mut [u64; 152]) -> Tally {
+pub fn counted(t: Tally, r: Record, same: bool, kinds: &mut [u64; 171]) -> Tally {
     if !same {
         return Tally {
             titled: t.titled,
@@ -38,7 +38,7 @@ pub fn counted(t: Tally, r: Record, same: bool, kinds: &mut [u64; 152]) -> Tally
         };
     }
     let k = kind_of(r.op, r.refusal);
-    if k < 152 {
+    if k < 171 {
         kinds[k] = one_more(kinds[k]);
     }
     Tally {
@@ -73,7 +73,8 @@ fn print_export(op: usize) {
         4 => io::write_all(1, b"apfs_xattr: "),
         5 => io::write_all(1, b"apfs_link: "),
         6 => io::write_all(1, b"apfs_extent: "),
-        _ => io::write_all(1, b"apfs_list: "),
+        7 => io::write_all(1, b"apfs_list: "),
+        _ => io::write_all(1, b"apfs_replaced: "),
     }
     ;
 }
@@ -94,9 +95,9 @@ fn print_kind(op: usize, refusal: usize, n: u64) {
     io::print_decimal(1, refusal as u64);
 }
 
-pub fn print_kinds(kinds: &[u64; 152]) {
+pub fn print_kinds(kinds: &[u64; 171]) {
     let mut k = 0;
-    while k < 152 {
+    while k < 171 {
         print_kind(k / 19, k % 19, kinds[k]);
         k += 1;
         if k % 19 == 0 {

@@ -12,7 +12,7 @@ use Rattle.error.specs.declared.Refusal.the-variants.{Unsupported, NotFound, Ch
 use Rattle.utf8.specs.Text.{sameBytes}
 use Rattle.paths.specs.Names.{insensitive, wide, sameKeys}
 use Rattle.paths.specs.Find.{exactMatch, keyMatch, findEntry}
-use Rattle.paths.specs.declared.names.NameRule.{NameRule}
+use Rattle.paths.specs.declared.compare.NameRule.{NameRule}
 use Rattle.lines.specs.Shown.{InodeShown, EntryShown, AttributeShown, Contents, packed, plain}
 use Rattle.demand.proofs.Tree.{Tree, node, Entries, none, entry}
 use Rattle.demand.specs.View.{View}

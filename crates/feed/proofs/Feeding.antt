@@ -13,16 +13,16 @@ use Rattle.error.specs.Answer.{pick}
 use Rattle.error.specs.declared.Refusal.{Refusal}
 use Rattle.error.proofs.Laws.{same, other}
 use Rattle.bytes.specs.Part.{upToZero}
-use Rattle.utf8.specs.Text.{pieceOf, sizeOf, shown, lossy}
+use Rattle.utf8.specs.Text.{pieceOf, sizeOf}
 use Rattle.utf8.proofs.Pieces.{size-pos, size-within}
 use Rattle.text.specs.Output.{Output, outputOf, puts}
 use Rattle.text.specs.declared.Position.{Position}
 use Rattle.text.specs.declared.Position.the-variants.{No}
 use Rattle.text.proofs.Writing.{puts-append, puts-refused}
-use Rattle.feed.specs.Fed.{waiting, fed, begun, Room}
+use Rattle.feed.specs.Fed.{writtenAs, shownAs, waiting, fed, begun, Room}
 use Rattle.feed.specs.declared.window.Window.{Window}
 use Rattle.feed.specs.declared.feed.Feed.{Feed}
-use Rattle.feed.proofs.Windows.{lossy-front}
+use Rattle.feed.proofs.Windows.{written-front}
 
 take-min : (n : ℕ) (l : List ℕ) → take (min n (length l)) l ≡ take n l
 take-min zero l = rw zero-min
@@ -34,9 +34,9 @@ unfolding upToZero
 pick-none true = refl
 pick-none false = refl
 
-pub begins : (room : ℕ) (p : Position) (w : Window) (b xs : List ℕ) → waiting w ≡ [] → fed room (record { window = w; ended = false; position = p }) b xs ≡ begun room p b xs
+pub begins : (marks : Bool) (room : ℕ) (p : Position) (w : Window) (b xs : List ℕ) → waiting w ≡ [] → fed room (record { marks = marks; window = w; ended = false; position = p }) b xs ≡ begun marks room p b xs
 unfolding fed begun
-begins room p w b xs h = rw h
+begins marks room p w b xs h = rw h
 
 module _ (room : ℕ) (f : Feed) where
   -- after a zero byte nothing counts
@@ -49,7 +49,7 @@ module _ (room : ℕ) (f : Feed) where
   unfolding fed
   refused-any b xs ys e h = rw h (puts-refused room _ e ∙ sym (puts-refused room _ e))
 
-  pub zero-ends : (x : ℕ) (b xs : List ℕ) → f .ended ≡ false → x ≡ 0 → fed room (record { window = f .window; ended = true; position = f .position }) b xs ≡ fed room f b (x ∷ xs)
+  pub zero-ends : (x : ℕ) (b xs : List ℕ) → f .ended ≡ false → x ≡ 0 → fed room (record { marks = f .marks; window = f .window; ended = true; position = f .position }) b xs ≡ fed room f b (x ∷ xs)
   unfolding fed upToZero
   zero-ends x b xs h e =
       let k : [] ≡ upToZero (x ∷ xs) = same _ _ _ _ _ e refl in
@@ -60,7 +60,7 @@ module _ (room : ℕ) (f : Feed) where
     pub piece-short : n ≤ 4
     piece-short = omega (arith, e, size-within (f .window .bytes))
 
-    pub room-made : outputOf q c ≡ puts room (shown (pieceOf (f .window .bytes)) (f .window .bytes)) (outputOf (f .position) b) → waiting v ≡ drop n (f .window .bytes) → v .len ≡ 4 - n → Room room f b (record { window = v; ended = f .ended; position = q }) c
+    pub room-made : outputOf q c ≡ puts room (shownAs (f .marks) (pieceOf (f .window .bytes)) (f .window .bytes)) (outputOf (f .position) b) → waiting v ≡ drop n (f .window .bytes) → v .len ≡ 4 - n → Room room f b (record { marks = f .marks; window = v; ended = f .ended; position = q }) c
     unfolding fed
     room-made h g m =
         let w = f .window .bytes in
@@ -68,18 +68,18 @@ module _ (room : ℕ) (f : Feed) where
         record {
           short = omega (arith, e, size-pos w (omega arith));
           ends = refl;
-          kept = λ xs. rw (g, h, e, ← puts-append, t, lossy-front w _ (omega arith));
+          kept = λ xs. rw (g, h, e, ← puts-append, t, written-front (f .marks) w _ (omega arith));
         }
 
   appended : (x : ℕ) (c xs : List ℕ) (g : Feed) (v : Window) → g .ended ≡ false → (x ≡ 0 → ⊥) → waiting v ≡ waiting (g .window) ++ (x ∷ [])
-      → fed room (record { window = v; ended = g .ended; position = g .position }) c xs ≡ fed room g c (x ∷ xs)
+      → fed room (record { marks = g .marks; window = v; ended = g .ended; position = g .position }) c xs ≡ fed room g c (x ∷ xs)
   unfolding fed upToZero
   appended x c xs g v h k e =
       let u : x ∷ upToZero xs ≡ upToZero (x ∷ xs) = other _ _ _ _ _ k refl in
       rw (h, ← u, e, append-assoc)
 
   pub byte-waits : (x : ℕ) (b c xs : List ℕ) (g : Feed) (v : Window) → Room room f b g c → f .ended ≡ false → (x ≡ 0 → ⊥) → waiting v ≡ waiting (g .window) ++ (x ∷ [])
-      → fed room (record { window = v; ended = g .ended; position = g .position }) c xs ≡ fed room f b (x ∷ xs)
+      → fed room (record { marks = g .marks; window = v; ended = g .ended; position = g .position }) c xs ≡ fed room f b (x ∷ xs)
   byte-waits x b c xs g v r h k e = appended x c xs g v (r .ends ∙ h) k e ∙ r .kept (x ∷ xs)
 
   pub no-zeros : (n : ℕ) (b xs : List ℕ) → n ≡ 0 → fed room f b xs ≡ fed room f b (replicate n 0 ++ xs)
@@ -93,7 +93,7 @@ module _ (room : ℕ) (f : Feed) where
       let v : [] ≡ upToZero (0 ∷ (replicate n 0 ++ xs)) = same 0 0 _ _ _ refl refl in
       k xs ∙ rw (← u, ← v)
 
-  pub finished : (b : List ℕ) (n : ℕ) (z : Output) → n ≡ min (f .window .len) (length (f .window .bytes)) → z ≡ puts room (lossy (take n (f .window .bytes))) (outputOf (f .position) b) → z ≡ fed room f b []
+  pub finished : (b : List ℕ) (n : ℕ) (z : Output) → n ≡ min (f .window .len) (length (f .window .bytes)) → z ≡ puts room (writtenAs (f .marks) (take n (f .window .bytes))) (outputOf (f .position) b) → z ≡ fed room f b []
   unfolding fed upToZero
   finished b n z e h = h ∙ rw (e, take-min, pick-none, append-nil)
 

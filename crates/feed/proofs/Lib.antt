@@ -1,4 +1,4 @@
-pub mod Windows
 pub mod Reading
+pub mod Windows
 pub mod Feeding
 pub mod Examples

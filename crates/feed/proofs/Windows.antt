@@ -1,6 +1,7 @@
 -- A piece is decided by 4 bytes, so that a window of 4 bytes is read as it will be with what follows it.
 use Prim.Native.Nat.{ℕ, suc, _+_, _-_, _≤_, _<_}
 use mathlib.Core.Path.{_≡_, refl, _∙_}
+use mathlib.Core.Bool.{Bool}
 use mathlib.Core.List.{List, [], _∷_, _++_}
 use lib.Dec.{lit≤}
 use lib.ListN.{length, getD, set, take, drop, length-drop}
@@ -8,11 +9,12 @@ use lib.Seq.{take-all, take-suc, take-suc-set, getD-drop, take-append-le, drop-a
 use native.Mathlib.Omega.{arith}
 use native.Mathlib.Numerals.{add-one}
 use borrow.Author.Needs.{needs}
-use Rattle.utf8.specs.Text.{Range, Rest, none, then, restOf, agree, pieceAfter, pieceOf, sizeOf, shown, lossy}
+use Rattle.utf8.specs.Text.{Range, Rest, none, then, restOf, agree, pieceAfter, pieceOf, sizeOf, shown}
 use Rattle.utf8.specs.declared.Piece.{Piece}
 use Rattle.utf8.specs.declared.Piece.the-variants.{End, WellFormed, IllFormed}
 use Rattle.utf8.proofs.Pieces.{in-cases, size-within}
-use Rattle.utf8.proofs.Reading.{lossy-next}
+use Rattle.feed.specs.Fed.{writtenAs, shownAs}
+use Rattle.feed.proofs.Reading.{written-next}
 
 -- a byte after the n bytes of a window
 pub one-more : (w : List ℕ) (n x : ℕ) → n < length w → take (n + 1) (set w n x) ≡ take n w ++ (x ∷ [])
@@ -67,8 +69,8 @@ shown-front w x (WellFormed n) h = take-append-le n w x h
 shown-front w x (IllFormed n) h = refl
 
 -- the first piece of a window of 4 bytes, and the rest of it with what follows
-pub lossy-front : (w x : List ℕ) → 4 ≤ length w → lossy (w ++ x) ≡ shown (pieceOf w) w ++ lossy (drop (sizeOf (pieceOf w)) w ++ x)
-lossy-front w x h =
-    lossy-next (w ++ x) ∙ rw (piece-front w x h, shown-front w x (pieceOf w) (size-within w), drop-append-le (sizeOf (pieceOf w)) w x (size-within w))
+pub written-front : (marks : Bool) (w x : List ℕ) → 4 ≤ length w → writtenAs marks (w ++ x) ≡ shownAs marks (pieceOf w) w ++ writtenAs marks (drop (sizeOf (pieceOf w)) w ++ x)
+written-front marks w x h =
+    written-next marks (w ++ x) ∙ rw (piece-front w x h, shown-front w x (pieceOf w) (size-within w), drop-append-le (sizeOf (pieceOf w)) w x (size-within w))
 
 pub ruleset windows = (needs, refl, one-more, moved-next, moved-all)

@@ -1,6 +1,6 @@
 // Bytes that come one after the other, read up to the first zero byte.
-use crate::pieces::put_lossy;
 use crate::pieces::put_piece;
+use crate::pieces::put_pieces;
 use crate::window::Window;
 use crate::window::count;
 use crate::window::empty;
@@ -14,17 +14,19 @@ ghost use lib.ListN.{replicate};
 ghost use Rattle.text.specs.Output.{outputOf};
 ghost use Rattle.feed.specs.Fed.{fed, begun, Room};
 
-// `ended`: a zero byte came, and nothing after it counts.
+// `ended`: a zero byte came, and nothing after it counts. `marks`: no text is written, but a zero byte for each part of it that is replaced.
 pub struct Feed {
+    pub marks: bool,
     pub window: Window,
     pub ended: bool,
     pub position: Position,
 }
 
-pub fn begin(p: Position) -> Feed
-    ensures { λ r. ⌜ ((room : ℕ) (b xs : List ℕ) → fed room r b xs ≡ begun room p b xs) ⌝ }
+pub fn begin(p: Position, marks: bool) -> Feed
+    ensures { λ r. ⌜ ((room : ℕ) (b xs : List ℕ) → fed room r b xs ≡ begun marks room p b xs) ⌝ }
 {
     Feed {
+        marks: marks,
         window: empty(),
         ended: false,
         position: p,
@@ -41,9 +43,10 @@ fn make_room(out: &mut [u8], room: usize, f: Feed) -> Feed
         return f;
     }
     let bytes = w.bytes;
-    let s = put_piece(out, room, p, &bytes[..]);
+    let s = put_piece(out, room, p, &bytes[..], f.marks);
     let q = s.position;
     Feed {
+        marks: f.marks,
         window: without(w, s.taken),
         ended: f.ended,
         position: q,
@@ -61,6 +64,7 @@ pub fn push(out: &mut [u8], room: usize, f: Feed, b: u8) -> Feed
         let w = f.window;
         let p = f.position;
         return Feed {
+            marks: f.marks,
             window: w,
             ended: true,
             position: p,
@@ -70,6 +74,7 @@ pub fn push(out: &mut [u8], room: usize, f: Feed, b: u8) -> Feed
     let w = g.window;
     let p = g.position;
     Feed {
+        marks: g.marks,
         window: with(w, b),
         ended: g.ended,
         position: p,
@@ -115,5 +120,5 @@ pub fn finish(out: &mut [u8], room: usize, f: Feed) -> Position
     let p = f.position;
     let bytes = w.bytes;
     let n = count(w);
-    put_lossy(out, room, p, &bytes[..n])
+    put_pieces(out, room, p, &bytes[..n], f.marks)
 }

@@ -1,4 +1,4 @@
-// The lossy reading of bytes that come one after the other, written into a buffer that the caller lends.
+// The lossy reading of bytes that come one after the other, written into a buffer that the caller lends, or the parts of it that are replaced.
 mod feed;
 mod pieces;
 mod window;
@@ -9,5 +9,4 @@ pub use feed::finish;
 pub use feed::push;
 pub use feed::push_all;
 pub use feed::push_zeros;
-pub use pieces::put_lossy;
 pub use window::Window;

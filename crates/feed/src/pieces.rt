@@ -1,10 +1,14 @@
-// A text written as its lossy reading, piece by piece.
+// A text written piece by piece.
 use text::Position;
 use text::put_all;
+use text::put_byte;
 use utf8::Piece;
 ghost use mathlib.Core.Path.{_≡_};
-ghost use Rattle.utf8.specs.Text.{lossy, pieceOf, shown, sizeOf};
+ghost use mathlib.Core.List.{[], _∷_};
+ghost use Rattle.error.specs.Answer.{pick};
+ghost use Rattle.utf8.specs.Text.{pieceOf, sizeOf, replacement};
 ghost use Rattle.text.specs.Output.{outputOf, puts};
+ghost use Rattle.feed.specs.Fed.{writtenAs, shownAs};
 
 // The position after a piece, and how many bytes the piece took.
 pub struct Written {
@@ -12,9 +16,27 @@ pub struct Written {
     pub taken: usize,
 }
 
+fn put_whole(out: &mut [u8], room: usize, p: Position, piece: &[u8], marks: bool) -> Position
+    ensures { λ r. ⌜ outputOf r (now (out .exit)) ≡ puts room (pick marks [] (now (piece .entry))) (outputOf p (now (out .entry))) ⌝ }
+{
+    if marks {
+        return p;
+    }
+    put_all(out, room, p, piece)
+}
+
+fn put_replaced(out: &mut [u8], room: usize, p: Position, marks: bool) -> Position
+    ensures { λ r. ⌜ outputOf r (now (out .exit)) ≡ puts room (pick marks (0 ∷ []) replacement) (outputOf p (now (out .entry))) ⌝ }
+{
+    if marks {
+        return put_byte(out, room, p, 0);
+    }
+    put_all(out, room, p, b"\xEF\xBF\xBD")
+}
+
 // The piece at the head of the bytes; of none, nothing.
-pub fn put_piece(out: &mut [u8], room: usize, p: Position, b: &[u8]) -> Written
-    ensures { λ r. ⌜ (r .taken ≡ sizeOf (pieceOf (now (b .entry)))) × (outputOf (r .position) (now (out .exit)) ≡ puts room (shown (pieceOf (now (b .entry))) (now (b .entry))) (outputOf p (now (out .entry)))) ⌝ }
+pub fn put_piece(out: &mut [u8], room: usize, p: Position, b: &[u8], marks: bool) -> Written
+    ensures { λ r. ⌜ (r .taken ≡ sizeOf (pieceOf (now (b .entry)))) × (outputOf (r .position) (now (out .exit)) ≡ puts room (shownAs marks (pieceOf (now (b .entry))) (now (b .entry))) (outputOf p (now (out .entry)))) ⌝ }
 {
     match utf8::next(b) {
         Piece::End => Written {
@@ -22,19 +44,19 @@ pub fn put_piece(out: &mut [u8], room: usize, p: Position, b: &[u8]) -> Written
             taken: 0,
         },
         Piece::WellFormed(n) => Written {
-            position: put_all(out, room, p, &b[..n]),
+            position: put_whole(out, room, p, &b[..n], marks),
             taken: n,
         },
         Piece::IllFormed(n) => Written {
-            position: put_all(out, room, p, b"\xEF\xBF\xBD"),
+            position: put_replaced(out, room, p, marks),
             taken: n,
         },
     }
 }
 
-// The lossy reading of a text.
-pub fn put_lossy(out: &mut [u8], room: usize, p: Position, b: &[u8]) -> Position
-    ensures { λ r. ⌜ outputOf r (now (out .exit)) ≡ puts room (lossy (now (b .entry))) (outputOf p (now (out .entry))) ⌝ }
+// A text, piece by piece.
+pub fn put_pieces(out: &mut [u8], room: usize, p: Position, b: &[u8], marks: bool) -> Position
+    ensures { λ r. ⌜ outputOf r (now (out .exit)) ≡ puts room (writtenAs marks (now (b .entry))) (outputOf p (now (out .entry))) ⌝ }
 {
     let mut q = p;
     let mut i = 0;
@@ -42,7 +64,7 @@ pub fn put_lossy(out: &mut [u8], room: usize, p: Position, b: &[u8]) -> Position
         match q {
             Position::No(e) => return Position::No(e),
             Position::At(_) => {
-                let w = put_piece(out, room, q, &b[i..]);
+                let w = put_piece(out, room, q, &b[i..], marks);
                 q = w.position;
                 i += w.taken;
             }

@@ -3,15 +3,20 @@ use Prim.Native.Nat.{ℕ}
 use mathlib.Core.Path.{_≡_}
 use mathlib.Core.List.{List}
 use lib.IntN.{ℤ}
-use Rattle.error.specs.Answer.{Answer, no, _>>=_}
+use Rattle.error.specs.Answer.{Answer, got, no, _>>=_}
 use Rattle.error.specs.declared.Refusal.{Refusal}
-use Rattle.bytes.proofs.Laws.{name-part}
+use Rattle.bytes.specs.declared.Span.{Span}
 use Rattle.btree.specs.declared.entries.Place.{Place}
 use Rattle.btree.proofs.Laws as tree-laws
+use Rattle.names.specs.Name.{nameOf}
+use Rattle.names.specs.declared.Name.{Name}
+use Rattle.names.proofs.Laws.{bytes-in}
 use Rattle.inode_record.specs.Fields.{fieldsTold, streamField}
 use Rattle.inode_record.specs.Inode.{idsTold, timesTold, ownerTold, signedOf, ownerWith, inodeIn}
 use Rattle.inode_record.specs.declared.fields.Fields.{Fields}
 use Rattle.inode_record.specs.declared.fields.FieldsRead.{FieldsRead}
+use Rattle.inode_record.specs.declared.fields.NameField.the-variants as name
+use Rattle.inode_record.specs.declared.fields.StreamField.the-variants as stream
 use Rattle.inode_record.specs.declared.inode.Ids.{Ids}
 use Rattle.inode_record.specs.declared.inode.IdsRead.{IdsRead}
 use Rattle.inode_record.specs.declared.inode.Times.{Times}
@@ -51,6 +56,10 @@ module _ {B : Type 0} (r : OwnerRead) (a : Answer Owner) (f : Owner → Answer B
 pub links-are : (v : List ℕ) (flags x bsd : ℕ) (l : ℤ) (z : Answer Owner) → l ≡ signedOf x → z ≡ ownerWith v flags l bsd → z ≡ ownerWith v flags (signedOf x) bsd
 links-are v flags x bsd l z e h = rw e at h
 
+pub field-named : (v : List ℕ) (s : Span) (n : Name) → n ≡ nameOf v s
+    → _≡_ {A = Answer Fields} (got (record { name = name.At n; stream = stream.Absent })) (got (record { name = name.At (nameOf v s); stream = stream.Absent }))
+field-named v s n e = rw e
+
 -- what was read in a list s that is u
 module _ (s u : List ℕ) (e : s ≡ u) where
   pub stream-field-in : (z : Answer Fields) → z ≡ streamField s → z ≡ streamField u
@@ -61,4 +70,4 @@ module _ (s u : List ℕ) (e : s ≡ u) where
 
 pub ruleset all = (tree-laws.all, fields-got, fields-no, ids-got, ids-no, times-got, times-no, owner-got, owner-no)
 
-pub ruleset parts = (tree-laws.parts, name-part, stream-field-in, inode-in)
+pub ruleset parts = (tree-laws.parts, bytes-in, field-named, stream-field-in, inode-in)

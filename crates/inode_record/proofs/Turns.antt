@@ -14,7 +14,7 @@ use Rattle.bytes.specs.Number.{numberAt, told}
 use Rattle.bytes.specs.declared.Number.{Number}
 use Rattle.inode_record.specs.Fields.{fieldsTold, laterName, laterStream, fieldAt, mergedOf, nextOff, fieldsFrom, noFields}
 use Rattle.inode_record.specs.declared.fields.Fields.{Fields}
-use Rattle.bytes.specs.declared.Span.{Span}
+use Rattle.names.specs.declared.Name.{Name}
 use Rattle.inode_record.specs.declared.fields.Dstream.{Dstream}
 use Rattle.inode_record.specs.declared.fields.NameField.{NameField}
 use Rattle.inode_record.specs.declared.fields.StreamField.{StreamField}
@@ -59,9 +59,9 @@ few b off r x p q h = read-fits w16 2 b off r x p q h tt .fits
 
 -- a later field over an earlier one
 module _ (later earlier : NameField) where
-  pub name-later : (s : Span) → later ≡ NameField.At s → NameField.At s ≡ laterName later earlier
+  pub name-later : (n : Name) → later ≡ NameField.At n → NameField.At n ≡ laterName later earlier
   unfolding laterName
-  name-later s q = rw q
+  name-later n q = rw q
 
   pub name-earlier : later ≡ NameField.Absent → earlier ≡ laterName later earlier
   unfolding laterName

@@ -8,6 +8,7 @@ use Rattle.error.specs.declared.Refusal.the-variants.{Corrupt}
 use Rattle.bytes.specs.Number.{numberAt}
 use Rattle.bytes.specs.Part.{partOf, spanAt}
 use Rattle.bytes.specs.declared.Span.{Span}
+use Rattle.names.specs.Name.{nameOf}
 use Rattle.inode_record.specs.declared.fields.Fields.{Fields}
 use Rattle.inode_record.specs.declared.fields.NameField.{NameField}
 use Rattle.inode_record.specs.declared.fields.NameField.the-variants as name
@@ -33,12 +34,12 @@ noFields = record { name = name.Absent; stream = stream.Absent }
 -- what one field gives: INO_EXT_TYPE_NAME is 4, INO_EXT_TYPE_DSTREAM 8; no other is kept
 unfoldable pub fieldIn : List ℕ → ℕ → Span → Answer Fields
 fieldIn v kind s =
-    ifEq kind 4 (got (record { name = name.At s; stream = stream.Absent }))
+    ifEq kind 4 (got (record { name = name.At (nameOf v s); stream = stream.Absent }))
     (ifEq kind 8 (streamField (partOf v s)) (got noFields))
 
 -- "a repeated field's last copy counts"
 unfoldable pub laterName : NameField → NameField → NameField
-laterName (name.At s) earlier = name.At s
+laterName (name.At n) earlier = name.At n
 laterName name.Absent earlier = earlier
 
 unfoldable pub laterStream : StreamField → StreamField → StreamField

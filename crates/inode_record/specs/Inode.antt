@@ -5,11 +5,11 @@ use mathlib.Core.List.{List}
 use lib.IntN.{ℤ, pos, _-ℤ_}
 use Rattle.error.specs.Answer.{Answer, got, no, _>>=_, ifLe}
 use Rattle.bytes.specs.Number.{numberAt}
-use Rattle.bytes.specs.Part.{partOf, upToZero}
-use Rattle.bytes.specs.declared.Span.{Span}
 use Rattle.obj.specs.declared.reader.Reader.{Reader}
 use Rattle.btree.specs.Entries.{valueOf}
 use Rattle.btree.specs.declared.entries.Place.{Place}
+use Rattle.names.specs.Name.{nameBytes}
+use Rattle.names.specs.declared.Name.{Name}
 use Rattle.inode_record.specs.Fields.{fieldsIn}
 use Rattle.inode_record.specs.declared.inode.Ids.{Ids}
 use Rattle.inode_record.specs.declared.inode.IdsRead.{IdsRead}
@@ -87,9 +87,9 @@ inodeIn p id v =
 unfoldable pub inodeAt : Reader → List ℕ → Place → ℕ → Answer Inode
 inodeAt r b p id = inodeIn p id (valueOf r b p)
 
--- "a name comes back as the part of the image that holds it", "up to the first zero byte"
-unfoldable pub inodeName : Reader → List ℕ → Place → Span → List ℕ
-inodeName r b p s = upToZero (partOf (valueOf r b p) s)
+-- "a name comes back as the part of the image that holds it"
+unfoldable pub inodeName : Reader → List ℕ → Place → Name → List ℕ
+inodeName r b p n = nameBytes (valueOf r b p) n
 
 -- UF_COMPRESSED, bit 0x20 of the BSD flags: 1 where a file is compressed (fs.rs, `is_compressed`)
 abbrev pub compressedBit : ℕ → ℕ

@@ -8,6 +8,8 @@ use bytes::u16_at;
 use bytes::u32_at;
 use bytes::u64_at;
 use error::Refusal;
+use names::Name;
+use names::name_of;
 ghost use mathlib.Core.Path.{_≡_};
 ghost use Prim.Native.Nat.{_<_, _+_, _*_};
 ghost use Rattle.inode_record.specs.Fields.{fieldsTold, streamField, fieldIn, laterName, laterStream, mergedOf, fieldAt, nextOff, fieldsFrom, noFields, fieldsIn};
@@ -20,7 +22,7 @@ pub struct Dstream {
 // The name is a part of the record's value.
 pub enum NameField {
     Absent,
-    At(Span),
+    At(Name),
 }
 
 pub enum StreamField {
@@ -64,7 +66,7 @@ fn field_in(v: &[u8], kind: u64, s: Span) -> FieldsRead
 {
     if kind == 4 {
         return FieldsRead::Got(Fields {
-            name: NameField::At(s),
+            name: NameField::At(name_of(v, s)),
             stream: StreamField::Absent,
         });
     }
@@ -81,7 +83,7 @@ fn later_name(later: NameField, earlier: NameField) -> NameField
     ensures { λ r. ⌜ r ≡ laterName later earlier ⌝ }
 {
     match later {
-        NameField::At(s) => NameField::At(s),
+        NameField::At(n) => NameField::At(n),
         NameField::Absent => earlier,
     }
 }

@@ -1,18 +1,16 @@
 // An inode (`j_inode_val_t`).
 use crate::fields::Fields;
 use crate::fields::FieldsRead;
-use crate::fields::NameField;
 use crate::fields::fields_in;
 use btree::Place;
 use btree::value_of;
 use bytes::Number;
-use bytes::Span;
-use bytes::cstr;
-use bytes::part;
 use bytes::u16_at;
 use bytes::u32_at;
 use bytes::u64_at;
 use error::Refusal;
+use names::Name;
+use names::name_bytes;
 use obj::Reader;
 ghost use mathlib.Core.Path.{_≡_};
 ghost use Rattle.inode_record.specs.Inode.{inodeTold, idsTold, idsIn, timesTold, timesIn, ownerTold, ownerWith, ownerIn, signedOf, inodeIn, inodeAt, inodeName};
@@ -198,9 +196,9 @@ pub fn inode_at(reader: Reader, image: &[u8], place: Place, id: u64) -> InodeRea
     inode_in(place, id, value_of(reader, image, place))
 }
 
-// The bytes of a name in an inode's value, up to the first zero byte.
-pub fn inode_name(reader: Reader, image: &[u8], place: Place, name: Span) -> &[u8]
+// The bytes of a name in an inode's value.
+pub fn inode_name(reader: Reader, image: &[u8], place: Place, name: Name) -> &[u8]
     ensures { λ r. ⌜ now r ≡ inodeName reader (now (image .entry)) place name ⌝ }
 {
-    cstr(part(value_of(reader, image, place), name))
+    name_bytes(value_of(reader, image, place), name)
 }

@@ -11,6 +11,7 @@ use Rattle.text.specs.Words.{ascii, digits, signed, pairs, bytes, bytes?, two?,
 use Rattle.text.proofs.Writing.{then, then-pairs}
 use Rattle.text.proofs.Writing as text-laws
 use Rattle.bytes.specs.declared.Span.{Span}
+use Rattle.names.specs.declared.Name.{Name}
 use Rattle.obj.specs.declared.reader.Reader.{Reader}
 use Rattle.btree.specs.declared.entries.Place.{Place}
 use Rattle.records.specs.Attribute.{attributeName}
@@ -89,12 +90,12 @@ signed-is room o z m n h e = rw e at h
 
 -- by what an inode has
 module _ (room : ℕ) (o z : Output) where
-  module _ (r : Reader) (b : List ℕ) (p : Place) (n : NameField) where
-    pub label-absent : n ≡ name.Absent → z ≡ puts room (ascii " -" []) o → z ≡ puts room (words (bytes? (nameShown r b p n) ∷ []) []) o
+  module _ (r : Reader) (b : List ℕ) (p : Place) (f : NameField) where
+    pub label-absent : f ≡ name.Absent → z ≡ puts room (ascii " -" []) o → z ≡ puts room (words (bytes? (nameShown r b p f) ∷ []) []) o
     label-absent e h = rw e h
 
-    pub label-at : (s : Span) (l : List ℕ) → n ≡ name.At s → z ≡ puts room (words (bytes (lossy l) ∷ []) []) o → l ≡ inodeName r b p s → z ≡ puts room (words (bytes? (nameShown r b p n) ∷ []) []) o
-    label-at s l e h k = rw (e, ← k) h
+    pub label-at : (n : Name) (l : List ℕ) → f ≡ name.At n → z ≡ puts room (words (bytes (lossy l) ∷ []) []) o → l ≡ inodeName r b p n → z ≡ puts room (words (bytes? (nameShown r b p f) ∷ []) []) o
+    label-at n l e h k = rw (e, ← k) h
 
   module _ (s : StreamField) where
     pub stream-absent : s ≡ stream.Absent → z ≡ puts room (ascii " -" []) o → z ≡ puts room (words (two? (streamShown s) ∷ []) []) o

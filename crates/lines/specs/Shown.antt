@@ -65,7 +65,7 @@ pub data Contents : Type 0 where
 -- "`-` is absent"
 abbrev pub nameShown : Reader → List ℕ → Place → NameField → Option (List ℕ)
 nameShown r b p name.Absent = none
-nameShown r b p (name.At s) = some (lossy (inodeName r b p s))
+nameShown r b p (name.At n) = some (lossy (inodeName r b p n))
 
 -- "STREAM is size, comma, allocated size"
 abbrev pub streamShown : StreamField → Option (ℕ × ℕ)

@@ -67,7 +67,7 @@ fn put_label(
 {
     match name {
         NameField::Absent => put_all(out, room, p, b" -"),
-        NameField::At(s) => put_name(out, room, p, inode_name(reader, image, place, s)),
+        NameField::At(n) => put_name(out, room, p, inode_name(reader, image, place, n)),
     }
 }
 

@@ -14,8 +14,7 @@ use Rattle.text.proofs.Writing.{puts-append, stopped, byte-stopped}
 use Rattle.feed.specs.Fed.{fed, begun}
 use Rattle.feed.specs.declared.feed.Feed.{Feed}
 use Rattle.streams.proofs.TooLong.{past-room}
-use Rattle.links.specs.Link.{textOf}
-use Rattle.links.specs.Inner.{fedAs, readAs}
+use Rattle.links.specs.Inner.{fedAs, begunAs}
 
 -- zeros, one by one
 module _ (room : ℕ) (o w : Output) (n : ℕ) (h : puts room (replicate n 0) o ≡ w) where
@@ -32,13 +31,13 @@ zeros-long room n k p b e h = rw e (sym (past-room room (replicate n 0) b k (rw 
 
 -- raw, what was fed is where the writing stands
 module _ (raw : Bool) (room : ℕ) (f r : Feed) (b c : List ℕ) where
-  pub raw-begun : (xs : List ℕ) → raw ≡ true → f .position ≡ At 0 → fedAs raw room f b xs ≡ puts room (readAs raw xs) (at b 0)
-  unfolding fedAs readAs
-  raw-begun xs e h = rw (e, h)
+  pub raw-begun : (marks : Bool) (xs : List ℕ) → raw ≡ true → f .position ≡ At 0 → fedAs raw room f b xs ≡ puts room (begunAs raw marks xs) (at b 0)
+  unfolding fedAs begunAs
+  raw-begun marks xs e h = rw (e, h)
 
-  pub text-begun : (xs : List ℕ) → raw ≡ false → ((n : ℕ) (y ys : List ℕ) → fed n f y ys ≡ begun n (At 0) y ys) → fedAs raw room f b xs ≡ puts room (readAs raw xs) (at b 0)
-  unfolding fedAs readAs begun textOf
-  text-begun xs e h = rw e (h room b xs)
+  pub text-begun : (marks : Bool) (xs : List ℕ) → raw ≡ false → ((n : ℕ) (y ys : List ℕ) → fed n f y ys ≡ begun marks n (At 0) y ys) → fedAs raw room f b xs ≡ puts room (begunAs raw marks xs) (at b 0)
+  unfolding fedAs begunAs begun
+  text-begun marks xs e h = rw e (h room b xs)
 
   pub raw-fed : (x xs : List ℕ) (p : Position) → raw ≡ true → outputOf p c ≡ puts room x (outputOf (f .position) b) → r .position ≡ p → fedAs raw room r c xs ≡ fedAs raw room f b (x ++ xs)
   unfolding fedAs

@@ -3,3 +3,4 @@ pub mod Feeding
 pub mod Pouring
 pub mod Targets
 pub mod Answers
+pub mod Counting

@@ -20,7 +20,7 @@ use Rattle.streams.specs.Streams.{settledOf}
 use Rattle.streams.specs.Inner.{streamBytes}
 use Rattle.streams.proofs.Contents.{stream-settled}
 use Rattle.links.specs.Link.{contentsBy}
-use Rattle.links.specs.Inner.{settledBy, bytesBy, fedAs, readAs}
+use Rattle.links.specs.Inner.{settledBy, bytesBy, fedAs, begunAs}
 
 module _ (b : List ℕ) (v : Volume) (d : AttributeData) (s : ℕ) where
   pub settled-embedded : (x : Span) → d ≡ Embedded x → after s fine ≡ settledBy b v d s
@@ -47,8 +47,8 @@ contents-settled b v p (Embedded x) s = refl
 contents-settled b v p (Stream d) s = stream-settled b v (d .object) (d .size) s
 
 -- all contents, from the buffer's start on
-pub contents-put : (raw : Bool) (room : ℕ) (f g : Feed) (o c x : List ℕ) (z : Output) → ((r : ℕ) (b xs : List ℕ) → fedAs raw r f b xs ≡ puts r (readAs raw xs) (at b 0))
-    → ((ys : List ℕ) → fedAs raw room g c ys ≡ fedAs raw room f o (x ++ ys)) → z ≡ fedAs raw room g c [] → z ≡ puts room (readAs raw x) (at o 0)
-contents-put raw room f g o c x z h k e = e ∙ k [] ∙ h room o (x ++ []) ∙ rw append-nil
+pub contents-put : (raw marks : Bool) (room : ℕ) (f g : Feed) (o c x : List ℕ) (z : Output) → ((r : ℕ) (b xs : List ℕ) → fedAs raw r f b xs ≡ puts r (begunAs raw marks xs) (at b 0))
+    → ((ys : List ℕ) → fedAs raw room g c ys ≡ fedAs raw room f o (x ++ ys)) → z ≡ fedAs raw room g c [] → z ≡ puts room (begunAs raw marks x) (at o 0)
+contents-put raw marks room f g o c x z h k e = e ∙ k [] ∙ h room o (x ++ []) ∙ rw append-nil
 
 pub ruleset targets = (needs, settled-embedded, settled-stream, pushed-embedded, pushed-stream)

@@ -1,15 +1,17 @@
 -- The shape of this crate's loops; no promise to a caller rests on these.
 -- `keepNamed` over a list is `named` (proofs/Names.antt). `settledBy` and then `bytesBy` are `contentsBy` (`contents-settled`,
--- proofs/Targets.antt). `fedAs` over all contents is `readAs` of them (`contents-put`), and `readContents` is `contentsOf` or `targetOf`
--- (proofs/Answers.antt).
+-- proofs/Targets.antt). `fedAs` over all contents is `readAs` of them (`contents-put`), and `readContents` is `contentsOf` or the text of `targetOf`
+-- (proofs/Answers.antt), whose number `countedIn` is (proofs/Counting.antt).
 use Prim.Native.Nat.{ℕ}
-use mathlib.Core.Bool.{Bool}
+use mathlib.Core.Bool.{Bool, false}
 use mathlib.Core.List.{List}
 use mathlib.Core.Option.{Option, none, some}
 use Rattle.error.specs.Answer.{Answer, got, _>>=_, pick}
 use Rattle.lookup.specs.Counted.{Counted, after, onto}
 use Rattle.text.specs.Output.{Output, outputOf, puts}
-use Rattle.feed.specs.Fed.{fed}
+use Rattle.bytes.specs.Part.{upToZero}
+use Rattle.utf8.specs.Text.{reading}
+use Rattle.feed.specs.Fed.{writtenAs, fed}
 use Rattle.feed.specs.declared.feed.Feed.{Feed}
 use Rattle.obj.specs.declared.reader.Reader.{Reader}
 use Rattle.btree.specs.declared.entries.Place.{Place}
@@ -22,7 +24,7 @@ use Rattle.extents.specs.Verdict.{fine}
 use Rattle.streams.specs.Streams.{settledOf}
 use Rattle.streams.specs.Inner.{streamBytes}
 use Rattle.links.specs.Named.{hasName}
-use Rattle.links.specs.Link.{contentsOf, textOf}
+use Rattle.links.specs.Link.{contentsOf}
 
 -- what is kept of a list once a is passed
 unfoldable pub keepNamed : Reader → List ℕ → List ℕ → Option Attribute → Attribute → Option Attribute
@@ -51,9 +53,17 @@ contentBytes b v a s = bytesBy b v (a .place) (a .contents) s
 unfoldable pub fedAs : Bool → ℕ → Feed → List ℕ → List ℕ → Output
 fedAs raw room f b xs = pick raw (puts room xs (outputOf (f .position) b)) (fed room f b xs)
 
--- bytes raw or as a text
-unfoldable pub readAs : Bool → List ℕ → List ℕ
-readAs raw x = pick raw x (textOf x)
+-- bytes raw, as a text, or the parts of the text that are replaced
+unfoldable pub begunAs : Bool → Bool → List ℕ → List ℕ
+begunAs raw marks x = pick raw x (writtenAs marks (upToZero x))
+
+-- raw, or as a text
+abbrev pub readAs : Bool → List ℕ → List ℕ
+readAs raw x = begunAs raw false x
 
 unfoldable pub readContents : Bool → List ℕ → Volume → Attribute → ℕ → Counted (List ℕ)
 readContents raw b v a s = onto (contentsOf b v a s) λ x t. after t (got (readAs raw x))
+
+-- how many parts of a text with these contents are replaced
+abbrev pub countedIn : Answer (List ℕ) → Answer ℕ
+countedIn a = a >>= λ x. got (reading (upToZero x) .replaced)

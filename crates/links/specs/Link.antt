@@ -2,10 +2,10 @@
 use Prim.Native.Nat.{ℕ}
 use mathlib.Core.List.{List, []}
 use mathlib.Core.Option.{Option, none, some}
-use Rattle.error.specs.Answer.{got, no}
+use Rattle.error.specs.Answer.{Answer, got, no, _>>=_}
 use Rattle.error.specs.declared.Refusal.the-variants.{Corrupt}
 use Rattle.bytes.specs.Part.{upToZero}
-use Rattle.utf8.specs.Text.{lossy}
+use Rattle.utf8.specs.Text.{Reading, reading}
 use Rattle.text.specs.Words.{ascii}
 use Rattle.lookup.specs.Counted.{Counted, after, onto}
 use Rattle.btree.specs.declared.entries.Place.{Place}
@@ -27,14 +27,12 @@ contentsBy b v p (Stream d) s = streamOf b v (d .object) (d .size) s
 abbrev pub contentsOf : List ℕ → Volume → Attribute → ℕ → Counted (List ℕ)
 contentsOf b v a s = contentsBy b v (a .place) (a .contents) s
 
--- document 01, bytes.rs: "`cstr` stops at the first zero byte or the end and reads lossily"
-unfoldable pub textOf : List ℕ → List ℕ
-textOf x = lossy (upToZero x)
+-- document 01, bytes.rs: "`cstr` stops at the first zero byte or the end and reads lossily", with the number of parts that are replaced: document 02,
+-- request 02
+unfoldable pub targetOf : List ℕ → Volume → Attribute → ℕ → Counted Reading
+targetOf b v a s = onto (contentsOf b v a s) λ x t. after t (got (reading (upToZero x)))
 
-unfoldable pub targetOf : List ℕ → Volume → Attribute → ℕ → Counted (List ℕ)
-targetOf b v a s = onto (contentsOf b v a s) λ x t. after t (got (textOf x))
-
-abbrev pub targetIn : List ℕ → Volume → Option Attribute → ℕ → Counted (List ℕ)
+abbrev pub targetIn : List ℕ → Volume → Option Attribute → ℕ → Counted Reading
 targetIn b v none s = after s (no Corrupt)
 targetIn b v (some a) s = targetOf b v a s
 
@@ -43,5 +41,13 @@ abbrev pub symlinkName : List ℕ
 symlinkName = ascii "com.apple.fs.symlink" []
 
 -- fs.rs, `read_link`: the first attribute of that name, and 2 where there is none
+unfoldable pub linkReading : List ℕ → Volume → Inode → ℕ → Counted Reading
+linkReading b v inode s = onto (attributeNamed b v (inode .id) symlinkName s) λ o t. targetIn b v o t
+
+-- its text
 unfoldable pub linkOf : List ℕ → Volume → Inode → ℕ → Counted (List ℕ)
-linkOf b v inode s = onto (attributeNamed b v (inode .id) symlinkName s) λ o t. targetIn b v o t
+linkOf b v inode s = onto (linkReading b v inode s) λ r t. after t (got (r .text))
+
+-- and its number
+abbrev pub replacedOf : Answer Reading → Answer ℕ
+replacedOf a = a >>= λ r. got (r .replaced)

@@ -13,7 +13,7 @@ ghost use mathlib.Core.List.{List, [], _++_};
 ghost use Prim.Native.Nat.{ℕ};
 ghost use lib.ListN.{replicate};
 ghost use Rattle.text.specs.Output.{at, outputOf, puts};
-ghost use Rattle.links.specs.Inner.{fedAs, readAs};
+ghost use Rattle.links.specs.Inner.{fedAs, begunAs};
 
 fn write_zeros(out: &mut [u8], room: usize, p: Position, n: u64) -> Position
     ensures { λ r. ⌜ outputOf r (now (out .exit)) ≡ puts room (replicate n 0) (outputOf p (now (out .entry))) ⌝ }
@@ -52,16 +52,17 @@ fn moved(f: Feed, p: Position) -> Feed
 {
     let w = f.window;
     Feed {
+        marks: f.marks,
         window: w,
         ended: f.ended,
         position: p,
     }
 }
 
-pub fn feed_begin(raw: bool) -> Feed
-    ensures { λ r. ⌜ ((room : ℕ) (b xs : List ℕ) → fedAs raw room r b xs ≡ puts room (readAs raw xs) (at b 0)) ⌝ }
+pub fn feed_begin(raw: bool, marks: bool) -> Feed
+    ensures { λ r. ⌜ ((room : ℕ) (b xs : List ℕ) → fedAs raw room r b xs ≡ puts room (begunAs raw marks xs) (at b 0)) ⌝ }
 {
-    let f = begin(Position::At(0));
+    let f = begin(Position::At(0), marks);
     if raw {
         return moved(f, Position::At(0));
     }

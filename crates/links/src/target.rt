@@ -78,7 +78,7 @@ fn put_contents(
 ) -> Position
     ensures { λ r. ⌜ outputOf r (now (out .exit)) ≡ puts room (readAs raw (contentBytes (now (image .entry)) v a nodes)) (at (now (out .entry)) 0) ⌝ }
 {
-    let f = feed_begin(raw);
+    let f = feed_begin(raw, false);
     let g = push_contents(out, room, raw, f, image, v, a, nodes);
     feed_end(out, room, raw, g)
 }

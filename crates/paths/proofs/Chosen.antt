@@ -14,7 +14,7 @@ use Rattle.records.specs.declared.directory.Entry.{Entry}
 use Rattle.paths.specs.Names.{insensitive, wide, sameKeys}
 use Rattle.paths.specs.Find.{exactMatch, keyMatch, findEntry}
 use Rattle.paths.specs.Inner.{noneYet, unlessExact, byKey, weighed, settled}
-use Rattle.paths.specs.declared.names.NameRule.{NameRule}
+use Rattle.paths.specs.declared.compare.NameRule.{NameRule}
 use Rattle.paths.specs.declared.choose.Choice.{Choice}
 use Rattle.paths.specs.declared.choose.Choice.the-variants.{Open, Exact, Keyed, No}
 use Rattle.paths.proofs.Keys.{wide-reading, ascii-reading}

@@ -23,7 +23,7 @@ use Rattle.paths.specs.Names.{ruleOf}
 use Rattle.paths.specs.Find.{findEntry}
 use Rattle.paths.specs.Inner.{noneYet, weighed, settled}
 use Rattle.paths.specs.Lookup.{entryChosen, nameRead, entryIn}
-use Rattle.paths.specs.declared.names.NameRule.{NameRule}
+use Rattle.paths.specs.declared.compare.NameRule.{NameRule}
 use Rattle.paths.specs.declared.choose.Choice.{Choice}
 use Rattle.paths.specs.declared.walk.EntryChosen.{EntryChosen}
 use Rattle.paths.proofs.Chosen.{chosen, chosen-start, chosen-next, chosen-end}

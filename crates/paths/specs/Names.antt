@@ -7,7 +7,7 @@ use Rattle.error.specs.Answer.{pick, ifLe}
 use Rattle.utf8.specs.Text.{sameBytes}
 use Rattle.name_hash.specs.Hash.{lower}
 use Rattle.volume.specs.declared.Volume.{Volume}
-use Rattle.paths.specs.declared.names.NameRule.{NameRule}
+use Rattle.paths.specs.declared.compare.NameRule.{NameRule}
 
 -- the name rule of a volume, by its incompatible features: APFS_INCOMPAT_CASE_INSENSITIVE 0x1, APFS_INCOMPAT_NORMALIZATION_INSENSITIVE 0x8
 -- (Apple File System Reference, "Volumes"; fs.rs, `name_rule`)

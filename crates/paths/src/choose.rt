@@ -1,8 +1,8 @@
 // The entry of a directory that a part of a path names, chosen entry after entry.
-use crate::names::NameRule;
-use crate::names::insensitive;
-use crate::names::is_wide;
-use crate::names::same_key;
+use crate::compare::NameRule;
+use crate::compare::insensitive;
+use crate::compare::is_wide;
+use crate::compare::same_key;
 use error::Refusal;
 use records::Entry;
 use records::EntryRead;

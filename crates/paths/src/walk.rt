@@ -2,7 +2,7 @@
 use crate::choose::none_yet;
 use crate::choose::settle;
 use crate::choose::weigh;
-use crate::names::name_rule;
+use crate::compare::name_rule;
 use crate::split::next_part;
 use crate::split::part_after;
 use bytes::part;

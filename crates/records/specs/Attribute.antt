@@ -6,12 +6,13 @@ use lib.ListN.{length}
 use Rattle.error.specs.Answer.{Answer, got, no, _>>=_, ifEq}
 use Rattle.error.specs.declared.Refusal.the-variants.{Corrupt}
 use Rattle.bytes.specs.Number.{numberAt}
-use Rattle.bytes.specs.Part.{partOf, spanAt, upToZero}
+use Rattle.bytes.specs.Part.{partOf, spanAt}
 use Rattle.bytes.specs.declared.Span.{Span}
 use Rattle.obj.specs.declared.reader.Reader.{Reader}
 use Rattle.obj.specs.Block.{blockOf}
 use Rattle.btree.specs.Entries.{keyOf, valueOf}
 use Rattle.btree.specs.declared.entries.Place.{Place}
+use Rattle.names.specs.Name.{nameOf, nameBytes}
 use Rattle.records.specs.declared.attribute.Attribute.{Attribute}
 use Rattle.records.specs.declared.attribute.AttributeData.{AttributeData}
 use Rattle.records.specs.declared.attribute.AttributeData.the-variants.{Embedded, Stream}
@@ -44,8 +45,8 @@ dataIn value flags =
 
 unfoldable pub withName : Place → List ℕ → ℕ → ℕ → AttributeData → Answer Attribute
 withName p key n flags d =
-    spanAt Corrupt (length key) 10 n >>= λ name.
-    got (record { place = p; name = name; flags = flags; contents = d })
+    spanAt Corrupt (length key) 10 n >>= λ s.
+    got (record { place = p; name = nameOf key s; flags = flags; contents = d })
 
 -- name_len, flags, the contents, and the name last
 unfoldable pub attributeValue : Place → List ℕ → List ℕ → Answer Attribute
@@ -62,9 +63,9 @@ attributeOf b p = attributeValue p (partOf b (p .key)) (partOf b (p .value))
 unfoldable pub attributeAt : Reader → List ℕ → Place → Answer Attribute
 attributeAt r b p = attributeOf (blockOf r b (p .block)) p
 
--- "a name comes back as the part of the image that holds it", "up to the first zero byte"
+-- "a name comes back as the part of the image that holds it"
 unfoldable pub attributeName : Reader → List ℕ → Attribute → List ℕ
-attributeName r b a = upToZero (partOf (keyOf r b (a .place)) (a .name))
+attributeName r b a = nameBytes (keyOf r b (a .place)) (a .name)
 
 unfoldable pub attributeBytes : Reader → List ℕ → Place → Span → List ℕ
 attributeBytes r b p s = partOf (valueOf r b p) s

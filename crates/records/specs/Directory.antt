@@ -7,6 +7,7 @@ use Rattle.error.specs.declared.Refusal.the-variants.{Corrupt}
 use Rattle.bytes.specs.Number.{numberAt}
 use Rattle.bytes.specs.Part.{partOf, upToZero}
 use Rattle.bytes.specs.declared.Span.{Span}
+use Rattle.utf8.specs.Text.{Reading, reading}
 use Rattle.obj.specs.declared.reader.Reader.{Reader}
 use Rattle.obj.specs.Block.{blockOf}
 use Rattle.btree.specs.Entries.{keyOf}
@@ -38,8 +39,7 @@ entryValue p name value =
     numberAt 2 value 16 >>= λ flags.
     got (record { place = p; name = name; «file_id» = id; «date_added» = date; kind = flags % 16 })
 
--- the name before the value (fs.rs, `read_dir`)
--- the entry of a record in the block b
+-- the entry of a record in the block b, the name before the value (fs.rs, `read_dir`)
 unfoldable pub entryOf : List ℕ → Place → Answer Entry
 entryOf b p = nameIn (partOf b (p .key)) >>= λ name. entryValue p name (partOf b (p .value))
 
@@ -49,3 +49,7 @@ entryAt r b p = entryOf (blockOf r b (p .block)) p
 -- "a name comes back as the part of the image that holds it", "up to the first zero byte"
 unfoldable pub entryName : Reader → List ℕ → Entry → List ℕ
 entryName r b e = upToZero (partOf (keyOf r b (e .place)) (e .name))
+
+-- its reading, with the number of parts that are replaced: document 02, request 02
+unfoldable pub entryReading : Reader → List ℕ → Entry → Reading
+entryReading r b e = reading (entryName r b e)

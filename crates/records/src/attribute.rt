@@ -5,12 +5,14 @@ use btree::value_of;
 use bytes::Number;
 use bytes::Sliced;
 use bytes::Span;
-use bytes::cstr;
 use bytes::part;
 use bytes::slice_at;
 use bytes::u16_at;
 use bytes::u64_at;
 use error::Refusal;
+use names::Name;
+use names::name_bytes;
+use names::name_of;
 use obj::Reader;
 ghost use mathlib.Core.Path.{_≡_};
 ghost use Rattle.records.specs.Attribute.{attributeTold, dataTold, streamIn, dataIn, withName, attributeValue, attributeOf, attributeName, attributeBytes};
@@ -35,7 +37,7 @@ pub enum DataRead {
 // The name is a part of the record's key.
 pub struct Attribute {
     pub place: Place,
-    pub name: Span,
+    pub name: Name,
     pub flags: u16,
     pub contents: AttributeData,
 }
@@ -91,9 +93,9 @@ fn with_name(
     ensures { λ r. ⌜ attributeTold r ≡ withName place (now (key .entry)) len flags contents ⌝ }
 {
     match slice_at(key, 10, len as usize) {
-        Sliced::Got(name) => AttributeRead::Got(Attribute {
+        Sliced::Got(s) => AttributeRead::Got(Attribute {
             place: place,
-            name: name,
+            name: name_of(key, s),
             flags: flags,
             contents: contents,
         }),
@@ -125,13 +127,13 @@ pub fn attribute_of(b: &[u8], place: Place) -> AttributeRead
     attribute_in(place, part(b, place.key), part(b, place.value))
 }
 
-// The bytes of an attribute's name, up to the first zero byte.
+// The bytes of an attribute's name.
 pub fn attribute_name(reader: Reader, image: &[u8], a: Attribute) -> &[u8]
     ensures { λ r. ⌜ now r ≡ attributeName reader (now (image .entry)) a ⌝ }
 {
     let place = a.place;
     let name = a.name;
-    cstr(part(key_of(reader, image, place), name))
+    name_bytes(key_of(reader, image, place), name)
 }
 
 // The bytes of a part of an attribute's value.

@@ -10,11 +10,12 @@ use bytes::u16_at;
 use bytes::u32_at;
 use bytes::u64_at;
 use error::Refusal;
+use names::name_of;
 use obj::Reader;
 ghost use mathlib.Core.Path.{_≡_};
 ghost use Prim.Native.Nat.{_+_};
 ghost use Rattle.bytes.specs.Part.{sliced};
-ghost use Rattle.records.specs.Directory.{entryTold, nameIn, entryValue, entryOf, entryName};
+ghost use Rattle.records.specs.Directory.{entryTold, nameIn, entryValue, entryOf, entryName, entryReading};
 
 // The name is a part of the record's key.
 pub struct Entry {
@@ -105,4 +106,15 @@ pub fn entry_name(reader: Reader, image: &[u8], e: Entry) -> &[u8]
     let place = e.place;
     let name = e.name;
     cstr(part(key_of(reader, image, place), name))
+}
+
+// How many parts of its name the lossy reading replaces: counted when it is asked, since most entries that are read are passed
+// over.
+pub fn entry_replaced(reader: Reader, image: &[u8], e: Entry) -> u64
+    ensures { λ r. ⌜ r ≡ entryReading reader (now (image .entry)) e .replaced ⌝ }
+{
+    let place = e.place;
+    let name = e.name;
+    let n = name_of(key_of(reader, image, place), name);
+    n.replaced
 }

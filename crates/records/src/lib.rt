@@ -14,6 +14,7 @@ pub use directory::Entry;
 pub use directory::EntryRead;
 pub use directory::entry_name;
 pub use directory::entry_of;
+pub use directory::entry_replaced;
 pub use extent::Extent;
 pub use extent::ExtentRead;
 pub use extent::extent_of;

@@ -13,7 +13,6 @@ put-piece-spec =
     (λ c. search all)
     (λ c κs. search needs)
     (λ c. search needs)
-    (λ c. search needs)
     (λ c κs. search needs)
     (λ c. search all)
     (λ c. search needs)

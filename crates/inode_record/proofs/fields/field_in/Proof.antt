@@ -9,6 +9,7 @@ unfolding fieldIn
 field-in-spec =
     tie.close
     (tie.spec
+    (λ c κs. search needs)
     (λ c. search (all, parts))
     (λ c κs. search needs)
     (λ c κs. search needs)

@@ -11,4 +11,4 @@ put-contents-spec =
     (λ c κs. search needs)
     (λ c κs. search needs)
     (λ c. search needs)
-    (λ c. contents-put _ _ _ _ _ _ _ _ (c .before .before .before .before .before .before .before .before .feed-begin .ensures) (c .before .before .before .before .before .before .push-contents .ensures) (c .before .before .feed-end .ensures)))
+    (λ c. contents-put _ _ _ _ _ _ _ _ _ (c .before .before .before .before .before .before .before .before .feed-begin .ensures) (c .before .before .before .before .before .before .push-contents .ensures) (c .before .before .feed-end .ensures)))

@@ -11,6 +11,7 @@ with-name-spec =
     (tie.spec
     (λ c κs. search needs)
     (λ c. search needs)
+    (λ c κs. search needs)
     (λ c. search needs)
     (λ c. search all)
     (λ c. search all))

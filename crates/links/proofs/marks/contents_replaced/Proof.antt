@@ -1,0 +1,17 @@
+use borrow.Author.Needs.{needs}
+use Rattle.links.proofs.Counting.{counting}
+use Rattle.links.proofs.marks.contents_replaced.Statement.{statement}
+use Rattle.links.proofs.marks.contents_replaced.Tie as tie
+
+pub contents-replaced-spec : {M : Type 1} → statement M
+contents-replaced-spec =
+    tie.close
+    (tie.spec
+    (λ c. search needs)
+    (λ c κs. search needs)
+    (λ c κs. search needs)
+    (λ c κs. search needs)
+    (λ c. search needs)
+    (λ c κs. search needs)
+    (λ c. search counting)
+    (λ c. search counting))
