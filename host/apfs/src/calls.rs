@@ -66,6 +66,16 @@ extern "C" {
         out: *mut u8,
         out_len: usize,
     ) -> i64;
+    fn apfs_replaced(
+        image: *const u8,
+        image_len: usize,
+        volume: u64,
+        kind: u64,
+        id: u64,
+        place: u64,
+        out: *mut u8,
+        out_len: usize,
+    ) -> i64;
     fn apfs_list(image: *const u8, image_len: usize, volume: u64, out: *mut u8, out_len: usize) -> i64;
 }
 
@@ -110,6 +120,13 @@ pub fn link(image: &[u8], volume: u64, id: u64, out: &mut [u8]) -> i64 {
 /// The line of the file's extent at `place`; nothing past the last.
 pub fn extent(image: &[u8], volume: u64, id: u64, place: u64, out: &mut [u8]) -> i64 {
     unsafe { apfs_extent(image.as_ptr(), image.len(), volume, id, place, out.as_mut_ptr(), out.len()) }
+}
+
+/// The line `(replaced N)`: how many ill-formed parts of a name its lossy reading replaces; nothing where there is no
+/// such name. Kinds: 0 the volume's label, 1 the inode's name, 2 the directory entry and 3 the attribute at `place`, 4 a
+/// symbolic link's text.
+pub fn replaced(image: &[u8], volume: u64, kind: u64, id: u64, place: u64, out: &mut [u8]) -> i64 {
+    unsafe { apfs_replaced(image.as_ptr(), image.len(), volume, kind, id, place, out.as_mut_ptr(), out.len()) }
 }
 
 /// The listing of the whole volume; where refused, `out` is left all zeros.

@@ -13,6 +13,9 @@
 //! than the first, which is 0. Refusals go to standard error, and the exit status is then 1; it is 2 where the arguments
 //! are wrong. A listing has as much room as it needs, up to 1 GiB or eight times the partition; sparse files may ask for
 //! more, which is refusal 6.
+//!
+//! Behind a name of which bytes are damaged `ls`, `stat` and `xattr` say how many parts of it are shown as U+FFFD, as in
+//! `(2 damaged)`; a U+FFFD that was typed is none of them.
 
 mod tool;
 

@@ -15,7 +15,15 @@ use sticks::{make, Stick};
 const ENOUGH: u64 = 80;
 const RIGHT: Ports = Ports { list: &by_oracle::list, call: &by_oracle::call };
 
-/// Whether a listing that is changed so is found out; no other call is made.
+/// Of calls names' numbers alone; of the others nothing is said.
+fn numbers(image: &[u8], volume: u64, call: &Call, out: &mut [u8]) -> i64 {
+    match call {
+        Call::Replaced { .. } => by_oracle::call(image, volume, call, out),
+        _ => 0,
+    }
+}
+
+/// Whether a listing that is changed so is found out.
 fn found(change: &dyn Fn(&[u8], &str) -> String) -> Option<String> {
     let list = |image: &[u8], volume: u64, out: &mut [u8]| {
         let mut whole = vec![0; LONGEST];
@@ -28,7 +36,7 @@ fn found(change: &dyn Fn(&[u8], &str) -> String) -> Option<String> {
         out[..length].copy_from_slice(&text.as_bytes()[..length]);
         length as i64
     };
-    let run = Run::over(3, ENOUGH, Ports { list: &list, call: &|_, _, _, _| 0 });
+    let run = Run::over(3, ENOUGH, Ports { list: &list, call: &numbers });
     run.failure.map(|f| f.words)
 }
 
@@ -97,7 +105,7 @@ fn listers_that_tell_nothing_are_found() {
 }
 
 fn refusing() -> Run {
-    Run::over(3, ENOUGH, Ports { list: &|_, _, _| -2, call: &|_, _, _, _| 0 })
+    Run::over(3, ENOUGH, Ports { list: &|_, _, _| -2, call: &numbers })
 }
 
 #[test]
@@ -126,6 +134,48 @@ fn a_call_that_shows_the_layout_is_found() {
         _ => by_oracle::call(image, volume, call, out),
     };
     assert!(found(&lost).is_some_and(|w| w.starts_with("lookup of ")));
+}
+
+/// What is found where each number's line is changed so.
+fn numbered(change: &dyn Fn(&str) -> String) -> Option<String> {
+    let call = |image: &[u8], volume: u64, call: &Call, out: &mut [u8]| {
+        if !matches!(call, Call::Replaced { .. }) {
+            return by_oracle::call(image, volume, call, out);
+        }
+        let mut line = [0; 40];
+        let n = by_oracle::call(image, volume, call, &mut line);
+        if n <= 0 {
+            return n;
+        }
+        let text = change(std::str::from_utf8(&line[..n as usize]).expect("text"));
+        let Some(room) = out.get_mut(..text.len()) else { return -6 };
+        room.copy_from_slice(text.as_bytes());
+        text.len() as i64
+    };
+    Run::over(3, ENOUGH, Ports { call: &call, ..RIGHT }).failure.map(|f| f.words)
+}
+
+#[test]
+fn numbers_that_do_not_tell_are_found() {
+    assert_eq!(numbered(&|line| line.into()), None);
+    let none = "(replaced 0)\n";
+    let never = numbered(&|_| none.into());
+    let always = numbered(&|_| "(replaced 1)\n".into());
+    let once = numbered(&|line| if line == none { none } else { "(replaced 1)\n" }.into());
+    for words in [never, always, once] {
+        assert!(words.as_ref().is_some_and(|w| w.contains(" typed and damaged: replaced of kind ")), "{words:?}");
+    }
+}
+
+#[test]
+fn a_listing_that_shows_a_number_is_found() {
+    let label = Call::Replaced { kind: 0, id: 0, place: 0 };
+    let words = found(&|image, text| {
+        let mut line = [0; 40];
+        by_oracle::call(image, 0, &label, &mut line);
+        format!("{text}{}", String::from_utf8_lossy(&line))
+    });
+    assert!(words.as_ref().is_some_and(|w| w.contains("the listing: ")), "{words:?}");
 }
 
 fn listed(seed: u64) -> Stick {

@@ -23,12 +23,13 @@ fn every_answer_is_the_oracles() {
 #[test]
 fn every_export_and_refusal_is_there() {
     let seen: BTreeSet<(&str, u8)> = recorded().iter().map(|r| (r.question.asked.name(), r.answer.0)).collect();
-    for name in ["open", "lookup", "read", "entry", "xattr", "link", "extent", "list"] {
+    for name in ["open", "lookup", "read", "entry", "xattr", "link", "extent", "list", "replaced"] {
         let known: &[u8] = match name {
             "open" => &[0, 1, 2, 3, 4, 6, 8, 11, 12],
             "lookup" => &[0, 1, 2, 3, 4, 5, 6, 8, 9, 11, 12],
             "read" => &[0, 1, 2, 3, 4, 8],
             "list" => &[0, 1, 2, 3, 4, 6, 8, 10, 11, 12],
+            "replaced" => &[0, 1, 2, 3, 4, 6, 8, 11, 12],
             _ => &[0, 1, 2, 3, 4, 6, 8],
         };
         let missing: Vec<&u8> = known.iter().filter(|n| !seen.contains(&(name, **n))).collect();

@@ -33,7 +33,8 @@ fn sticks_of_given_contents_hold_them() {
     for plan in (0..STICKS / 4).map(Plan::draw) {
         let regular = plan.volumes.iter().filter(|v| v.is_regular());
         let proper = regular.map(|v| Plan::proper(&v.contents, plan.seed));
-        for stick in proper.chain([plan.relaid(plan.seed)]).map(sticks::make) {
+        let patched = plan.opens().then(|| plan.patched());
+        for stick in proper.chain([plan.relaid(plan.seed)]).chain(patched).map(sticks::make) {
             // Where a broken checkpoint names a place too far for the oracle, it can't tell.
             if answer::open(&Arc::new(stick.image.clone())) != Answer::Overflow {
                 walk(&stick, &mut reach).unwrap_or_else(|e| panic!("stick {}: {e}", plan.seed));

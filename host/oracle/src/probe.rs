@@ -2,10 +2,10 @@
 
 use std::sync::Arc;
 
-use crate::btree::Node;
+use crate::btree::{self, Node};
 use crate::bytes;
 use crate::error::{Error, Result};
-use crate::fs::{Extent, Inode, Volume};
+use crate::fs::{Extent, Inode, Volume, OBJ_ID_MASK};
 use crate::nx::Container;
 
 /// The number that document 01 gives an error's class. The other classes belong to writing.
@@ -49,6 +49,20 @@ pub fn inode(id: u64, value: &[u8]) -> Result<Inode> {
 
 pub fn extents(volume: &Volume, stream: u64) -> Result<Vec<Extent>> {
     volume.extents(stream)
+}
+
+/// Of a key and its value, whether to go on.
+pub type Each<'f> = &'f mut dyn FnMut(&[u8], &[u8]) -> Result<bool>;
+
+/// The records of an id and a kind, in the tree's order.
+pub fn records(volume: &Volume, id: u64, kind: u8, f: Each) -> Result<()> {
+    let window = |key: &[u8]| {
+        let head = bytes::u64_at(key, 0)?;
+        Ok((head & OBJ_ID_MASK, (head >> 60) as u8).cmp(&(id, kind)))
+    };
+    let block = |oid: u64| volume.fs_node(oid).map(|(_, block)| block);
+    let root = volume.fs_root();
+    btree::scan(&volume.container().r, root, &root.info()?, &block, &window, f)
 }
 
 /// A node of the volume's tree by its object id.

@@ -1,7 +1,7 @@
 //! What the seed decides, and that every kind of thing is drawn.
 
 use sticks::checkpoint::Fault;
-use sticks::contents::{Contents, Data, Extent, Key, Source, LINK_ATTRIBUTE};
+use sticks::contents::{text, Contents, Data, Extent, Field, Key, Source, LINK_ATTRIBUTE, NAME_FIELD};
 use sticks::sums::{checksum, name_hash};
 use sticks::volume::{Lost, Volume};
 use sticks::{damage, damage_at, make, Aim, Plan, Stick};
@@ -199,7 +199,7 @@ fn hard_link(c: &Contents) -> bool {
 }
 
 fn links(c: &Contents) -> impl Iterator<Item = (&Contents, &Data)> {
-    let all = c.files.iter().flat_map(|f| &f.attributes).filter(|a| a.name == LINK_ATTRIBUTE);
+    let all = c.files.iter().flat_map(|f| &f.attributes).filter(|a| up_to_zero(&a.name) == LINK_ATTRIBUTE);
     all.map(move |a| (c, &a.data))
 }
 
@@ -233,6 +233,125 @@ fn every_kind_of_name_is_drawn() {
             ("names twice", twice),
             ("names that differ by case", by_case),
             ("hard links", hard_link),
+        ],
+    );
+}
+
+fn patched() -> Vec<Contents> {
+    plans().into_iter().flat_map(|p| p.patched().volumes).map(|v| v.contents).collect()
+}
+
+fn up_to_zero(name: &[u8]) -> &[u8] {
+    name.split(|&b| b == 0).next().unwrap_or_default()
+}
+
+/// Each part of a name that its lossy reading replaces, and the byte behind it, 0 at the end.
+fn broken(name: &[u8]) -> Vec<(Vec<u8>, u8)> {
+    let (name, mut at) = (up_to_zero(name), 0);
+    let part = |c: std::str::Utf8Chunk| {
+        at += c.valid().len() + c.invalid().len();
+        (c.invalid().to_vec(), name.get(at).copied().unwrap_or(0))
+    };
+    name.utf8_chunks().map(part).filter(|p| !p.0.is_empty()).collect()
+}
+
+fn typed(name: &[u8]) -> bool {
+    let mut chunks = up_to_zero(name).utf8_chunks();
+    chunks.any(|c| c.valid().contains('\u{fffd}'))
+}
+
+fn name_fields(f: &sticks::contents::File) -> Vec<&Field> {
+    f.inode.fields.iter().filter(|f| f.kind == NAME_FIELD).collect()
+}
+
+/// Label, inode names, entries, attributes and the bytes of links.
+fn all_names(c: &Contents) -> [Vec<Vec<u8>>; 5] {
+    let fields = c.files.iter().flat_map(name_fields).map(|f| f.data.clone());
+    let attributes = c.files.iter().flat_map(|f| &f.attributes).map(|a| a.name.clone());
+    let target = |(c, data): (&Contents, &Data)| match data {
+        Data::Embedded(b) => b.clone(),
+        Data::Stream { id, size } => c.bytes(*id, (*size).min(5000)),
+    };
+    let entries = names(c).map(<[u8]>::to_vec).collect();
+    [vec![c.label.clone()], fields.collect(), entries, attributes.collect(), links(c).map(target).collect()]
+}
+
+#[test]
+fn every_way_out_of_table_3_7_is_drawn() {
+    let all: Vec<[Vec<Vec<u8>>; 5]> = patched().iter().map(all_names).collect();
+    for which in 0..5 {
+        let parts: Vec<(Vec<u8>, u8)> = all.iter().flat_map(|names| &names[which]).flat_map(|n| broken(n)).collect();
+        all_seen(
+            &parts,
+            &[
+                ("a lone continuation", |p| (0x80..=0xbf).contains(&p.0[0])),
+                ("2 bytes cut short", |p| (0xc2..=0xdf).contains(&p.0[0])),
+                ("3 bytes after the first", |p| (0xe1..=0xef).contains(&p.0[0]) && p.0.len() == 1 && p.1 < 0x80),
+                ("3 bytes after the second", |p| (0xe0..=0xef).contains(&p.0[0]) && p.0.len() == 2),
+                ("4 bytes after the first", |p| (0xf0..=0xf4).contains(&p.0[0]) && p.0.len() == 1 && p.1 < 0x80),
+                ("4 bytes after the second", |p| (0xf0..=0xf4).contains(&p.0[0]) && p.0.len() == 2),
+                ("4 bytes after the third", |p| (0xf0..=0xf4).contains(&p.0[0]) && p.0.len() == 3),
+                ("2 bytes, overlong", |p| p.0 == [0xc0] || p.0 == [0xc1]),
+                ("3 bytes, overlong", |p| p.0 == [0xe0] && (0x80..0xa0).contains(&p.1)),
+                ("4 bytes, overlong", |p| p.0 == [0xf0] && (0x80..0x90).contains(&p.1)),
+                ("surrogates", |p| p.0 == [0xed] && (0xa0..0xc0).contains(&p.1)),
+                ("above U+10FFFF", |p| p.0 == [0xf4] && (0x90..0xc0).contains(&p.1)),
+                ("no first byte", |p| p.0[0] >= 0xf5),
+            ],
+        );
+    }
+}
+
+/// Of names that differ, two read alike.
+fn alike(c: &Contents) -> bool {
+    let differ = |a: &[u8], b: &[u8]| up_to_zero(a) != up_to_zero(b) && text(a) == text(b);
+    c.files.iter().any(|f| f.entries.windows(2).any(|w| differ(&w[0].name, &w[1].name)))
+}
+
+fn copies_differ(c: &Contents) -> bool {
+    let count = |f: &Field| broken(&f.data).len();
+    c.files.iter().map(name_fields).any(|l| l.windows(2).any(|w| count(w[0]) != count(w[1])))
+}
+
+/// Whether a place lies within a character.
+fn within(bytes: &[u8], at: usize) -> bool {
+    let mut start = 0;
+    bytes.utf8_chunks().any(|c| {
+        let from = at.checked_sub(start);
+        start += c.valid().len() + c.invalid().len();
+        from.is_some_and(|n| n < c.valid().len() && !c.valid().is_char_boundary(n))
+    })
+}
+
+/// A broken text in extents, one of which begins within a character.
+fn parts_a_broken_text(c: &Contents, data: &Data) -> bool {
+    let Data::Stream { id, size } = data else { return false };
+    let bytes = c.bytes(*id, (*size).min(5000));
+    let name = up_to_zero(&bytes);
+    !broken(name).is_empty() && c.stream(*id).iter().any(|e| within(name, e.logical as usize))
+}
+
+#[test]
+fn every_kind_of_patched_name_is_drawn() {
+    all_seen(
+        &patched(),
+        &[
+            ("a label's U+FFFD, typed", |c| typed(&c.label) && broken(&c.label).is_empty()),
+            ("a label cut within a character", |c| c.label.len() == 256 && broken(&c.label).len() == 1),
+            ("an entry's, typed", |c| names(c).any(|n| typed(n) && broken(n).is_empty())),
+            ("an entry's, typed and broken", |c| names(c).any(|n| typed(n) && !broken(n).is_empty())),
+            ("five parts", |c| names(c).any(|n| broken(n).len() > 4)),
+            ("what is broken behind a zero byte", |c| {
+                names(c).any(|n| broken(n).is_empty() && std::str::from_utf8(n).is_err())
+            }),
+            ("copies of different numbers", copies_differ),
+            ("names that read alike", alike),
+            ("an attribute's", |c| all_names(c)[3].iter().any(|n| !broken(n).is_empty())),
+            ("a link's name with more behind it", |c| {
+                all_names(c)[3].iter().any(|n| n.len() > LINK_ATTRIBUTE.len() && n.starts_with(LINK_ATTRIBUTE))
+            }),
+            ("an embedded link's", |c| links(c).any(|(_, d)| matches!(d, Data::Embedded(b) if !broken(b).is_empty()))),
+            ("a streamed link's, parted within a character", |c| links(c).any(|(c, d)| parts_a_broken_text(c, d))),
         ],
     );
 }

@@ -8,11 +8,14 @@ use crate::tool::attribute::Attribute;
 use crate::tool::container::{Container, Volume};
 use crate::tool::failure::Failure;
 use crate::tool::image;
+use crate::tool::name::{damaged, Name};
 use crate::tool::node::{Entry, Node};
 use crate::tool::part::Part;
 use crate::tool::shown::shown;
 use crate::tool::size;
 
+/// What a damaged part of a name reads as.
+const REPLACEMENT: char = '\u{fffd}';
 const CORRUPT: u64 = 2;
 const NOT_FOUND: u64 = 4;
 const PATH_NOT_UTF8: u64 = 5;
@@ -193,6 +196,22 @@ impl Asked {
     pub fn link(&self, id: u64) -> Result<String, u64> {
         let text = bytes(LONGEST, &|out| calls::link(self.image(), self.volume, id, out))?;
         Ok(String::from_utf8_lossy(&text).into_owned())
+    }
+
+    /// What stands behind a shown name: how many parts of it are damaged, if any. A name as ordinary ones are has no
+    /// such part, and is not asked about.
+    pub fn mark(&self, volume: u64, name: Name, text: &str) -> Result<String, Failure> {
+        if !text.contains(REPLACEMENT) {
+            return Ok(String::new());
+        }
+        let what = "damaged parts of a name";
+        let (kind, id, place) = name.numbers();
+        let call = |out: &mut [u8]| calls::replaced(self.image(), volume, kind, id, place, out);
+        let line = bytes(LONGEST, &call).map_err(|n| self.refused(what, n))?;
+        Ok(match self.line(what, &line, damaged)? {
+            0 => String::new(),
+            n => format!(" ({n} damaged)"),
+        })
     }
 
     /// A volume's label and rule, or the refusal's number. No call but the listing tells them; one of over

@@ -4,6 +4,7 @@ use std::io::Write;
 
 use crate::tool::ask::{shown_path, Asked};
 use crate::tool::failure::Failure;
+use crate::tool::name::Name;
 use crate::tool::node::{Entry, Node, DIRECTORY, LINK, REGULAR};
 use crate::tool::shown::{kind, shown};
 
@@ -13,7 +14,8 @@ pub fn run(asked: &Asked, path: &[u8], out: &mut dyn Write) -> Result<(), Failur
     let node = asked.lookup(path)?;
     if node.kind() != DIRECTORY {
         let name = String::from_utf8_lossy(path).into_owned();
-        return line(asked, &Entry { id: node.id, kind: node.kind(), name }, &size(&node), out);
+        let e = Entry { id: node.id, kind: node.kind(), name };
+        return line(asked, &e, &size(&node), &shown(&e.name), out);
     }
     let (what, mut place) = (shown_path(path), 0);
     loop {
@@ -22,17 +24,23 @@ pub fn run(asked: &Asked, path: &[u8], out: &mut dyn Write) -> Result<(), Failur
             return Ok(());
         }
         for e in &entries {
-            line(asked, e, &sized(asked, e), out)?;
+            let mark = asked.mark(asked.volume, Name::Entry(node.id, place), &e.name)?;
+            line(asked, e, &sized(asked, e), &(shown(&e.name) + &mark), out)?;
+            place += 1;
         }
-        place += entries.len() as u64;
     }
 }
 
 /// Kind, size and name, and where a link leads.
-fn line(asked: &Asked, e: &Entry, size: &str, out: &mut dyn Write) -> Result<(), Failure> {
-    let target = if e.kind == LINK { asked.link(e.id).ok() } else { None };
-    let target = target.map_or(String::new(), |to| format!(" -> {}", shown(&to)));
-    Ok(writeln!(out, "{:8} {size:>12} {}{target}", kind(e.kind), shown(&e.name))?)
+fn line(asked: &Asked, e: &Entry, size: &str, name: &str, out: &mut dyn Write) -> Result<(), Failure> {
+    let target = if e.kind == LINK { target(asked, e.id)? } else { String::new() };
+    Ok(writeln!(out, "{:8} {size:>12} {name}{target}", kind(e.kind))?)
+}
+
+/// Nothing where the link cannot be read.
+fn target(asked: &Asked, id: u64) -> Result<String, Failure> {
+    let Ok(to) = asked.link(id) else { return Ok(String::new()) };
+    Ok(format!(" -> {}{}", shown(&to), asked.mark(asked.volume, Name::Target(id), &to)?))
 }
 
 fn size(node: &Node) -> String {

@@ -9,6 +9,7 @@ pub mod failure;
 mod image;
 pub mod list;
 pub mod ls;
+mod name;
 mod node;
 mod part;
 pub mod sample;

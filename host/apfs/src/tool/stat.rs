@@ -8,6 +8,7 @@ use crate::tool::ask::Asked;
 use crate::tool::container::Volume;
 use crate::tool::date::date;
 use crate::tool::failure::Failure;
+use crate::tool::name::Name;
 use crate::tool::node::{Node, DIRECTORY, LINK};
 use crate::tool::shown::{kind, shown};
 
@@ -39,7 +40,7 @@ fn volume(asked: &Asked, i: u64) -> Result<String, Failure> {
         return Ok(refused(n));
     }
     Ok(match asked.volume(i)? {
-        Ok(v) => rule(&v),
+        Ok(v) => rule(&v, &asked.mark(i, Name::Label, &v.label)?),
         Err(n) => format!("label and rule are not told, as its listing is refused: {}", refused(n)),
     })
 }
@@ -48,34 +49,43 @@ fn refused(number: u64) -> String {
     format!("{} (refusal {number})", words(number))
 }
 
-fn rule(v: &Volume) -> String {
+fn rule(v: &Volume, mark: &str) -> String {
     let insensitive = |yes: bool| if yes { "insensitive" } else { "sensitive" };
     let (case, form) = (insensitive(v.case_insensitive), insensitive(v.normalization_insensitive));
-    format!("label \"{}\", case-{case}, normalization-{form}", shown(&v.label))
+    format!("label \"{}\"{mark}, case-{case}, normalization-{form}", shown(&v.label))
 }
 
 pub fn run(asked: &Asked, path: &[u8], out: &mut dyn Write) -> Result<(), Failure> {
     let node = asked.lookup(path)?;
-    for (name, value) in fields(&node) {
+    for (name, value) in fields(&node, named(asked, &node)?) {
         field(out, name, &value)?;
     }
     match node.kind() {
-        LINK => {
-            let told = asked.link(node.id).unwrap_or_else(refused);
-            field(out, "leads to", &shown(&told))
-        }
+        LINK => field(out, "leads to", &target(asked, node.id)?),
         _ => Ok(()),
     }
 }
 
-fn fields(n: &Node) -> Vec<(&'static str, String)> {
+fn named(asked: &Asked, n: &Node) -> Result<String, Failure> {
+    let Some(name) = &n.name else { return Ok("none".into()) };
+    Ok(shown(name) + &asked.mark(asked.volume, Name::Inode(n.id), name)?)
+}
+
+fn target(asked: &Asked, id: u64) -> Result<String, Failure> {
+    match asked.link(id) {
+        Ok(to) => Ok(shown(&to) + &asked.mark(asked.volume, Name::Target(id), &to)?),
+        Err(n) => Ok(refused(n)),
+    }
+}
+
+fn fields(n: &Node, name: String) -> Vec<(&'static str, String)> {
     let stream = |pick: fn((u64, u64)) -> u64| n.stream.map_or("none".into(), |s| pick(s).to_string());
     let links = if n.kind() == DIRECTORY { "children" } else { "links" };
     vec![
         ("id", n.id.to_string()),
         ("parent", n.parent.to_string()),
         ("private id", n.private.to_string()),
-        ("name", n.name.as_ref().map_or("none".into(), |n| shown(n))),
+        ("name", name),
         ("kind", kind(n.kind()).into()),
         ("mode", format!("{:04o}", n.mode & 0o7777)),
         (links, n.links.to_string()),

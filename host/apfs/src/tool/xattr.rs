@@ -5,6 +5,7 @@ use std::io::Write;
 use crate::tool::ask::{shown_path, Asked};
 use crate::tool::attribute::Attribute;
 use crate::tool::failure::Failure;
+use crate::tool::name::Name;
 use crate::tool::shown::shown;
 
 /// Past the end of any list.
@@ -26,11 +27,12 @@ fn all(asked: &Asked, what: &str, id: u64) -> Result<Vec<Result<Attribute, u64>>
 pub fn run(asked: &Asked, path: &[u8], out: &mut dyn Write) -> Result<(), Failure> {
     let (node, what) = (asked.lookup(path)?, shown_path(path));
     let mut refused = Ok(());
-    for (place, a) in all(asked, &what, node.id)?.into_iter().enumerate() {
+    for (place, a) in (0..).zip(all(asked, &what, node.id)?) {
         match a {
             Ok(a) => {
                 let form = if a.is_stream { "stream" } else { "embedded" };
-                writeln!(out, "{:#06x} {form:8} {:>12} {}", a.flags, a.size, shown(&a.name))?;
+                let mark = asked.mark(asked.volume, Name::Attribute(node.id, place), &a.name)?;
+                writeln!(out, "{:#06x} {form:8} {:>12} {}{mark}", a.flags, a.size, shown(&a.name))?;
             }
             Err(n) if refused.is_ok() => refused = Err(asked.refused(&format!("attribute {place} of {what}"), n)),
             Err(_) => {}

@@ -2,6 +2,7 @@
 
 #![cfg(feature = "calls")]
 
+mod damaged;
 mod errors;
 mod image;
 mod partitioned;

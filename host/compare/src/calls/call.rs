@@ -38,9 +38,16 @@ pub enum Call {
         id: u64,
         place: u64,
     },
+    /// Of the names that [`crate::calls::replaced`] lists.
+    Replaced {
+        kind: u64,
+        id: u64,
+        place: u64,
+    },
 }
 
-pub const NAMES: [&str; 8] = ["lookup", "read", "entry", "entries", "xattr", "xattr_bytes", "link", "extent"];
+pub const NAMES: [&str; 9] =
+    ["lookup", "read", "entry", "entries", "xattr", "xattr_bytes", "link", "extent", "replaced"];
 
 impl Call {
     /// One of [`NAMES`].
@@ -54,6 +61,7 @@ impl Call {
             Call::XattrBytes { .. } => "xattr_bytes",
             Call::Link { .. } => "link",
             Call::Extent { .. } => "extent",
+            Call::Replaced { .. } => "replaced",
         }
     }
 
@@ -73,6 +81,7 @@ impl fmt::Display for Call {
             Call::Read { id, offset, length } => write!(f, "read of {id} at {offset}, {length} bytes"),
             Call::Entries { id, place, length } => write!(f, "entries of {id} from {place} on, {length} bytes"),
             Call::Link { id } => write!(f, "link of {id}"),
+            Call::Replaced { kind, id, place } => write!(f, "replaced of kind {kind}, {place} of {id}"),
             Call::Entry { id, place }
             | Call::Xattr { id, place }
             | Call::XattrBytes { id, place }

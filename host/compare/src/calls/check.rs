@@ -73,10 +73,25 @@ impl Subject<'_> {
         }
     }
 
+    /// With one buffer that is as long as the text or longer, and one time in four with one that is too short.
+    fn line(&self, text: &[u8], random: &mut Random) -> Result<(), String> {
+        let n = text.len();
+        let more = if random.chance(1, 2) { 0 } else { 1 + random.place(60) };
+        self.once(n + more, n as i64, text)?;
+        match random.below(8) {
+            _ if n == 0 => Ok(()),
+            0 => self.once(n - 1, TOO_SHORT, b""),
+            1 => self.once(random.place(n), TOO_SHORT, b""),
+            _ => Ok(()),
+        }
+    }
+
     pub fn check(&self, want: &Expected, random: &mut Random) -> Result<(), String> {
         let asked = self.call.room();
         match (&want.answer, asked) {
             (Answer::Bytes(b), Some(length)) => self.once(length, b.len() as i64, b),
+            // All names of a stick are asked about: so many that one buffer each is mostly enough.
+            (Answer::Bytes(b), None) if matches!(self.call, Call::Replaced { .. }) => self.line(b, random),
             (Answer::Bytes(b), None) => self.text(b, random),
             (Answer::Refused(number), _) => {
                 let n = asked.unwrap_or_else(|| random.pick(&[0, 40, 300]));

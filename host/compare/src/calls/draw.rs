@@ -7,6 +7,7 @@ use sticks::random::Random;
 use crate::calls::call::Call;
 use crate::calls::line;
 use crate::calls::lists::Lists;
+use crate::calls::replaced::{ATTRIBUTE, ENTRY, INODE, LABEL, LINK};
 
 const ROOT: u64 = 2;
 const LOOKUPS: usize = 10;
@@ -18,6 +19,8 @@ const LONGEST_READ: u64 = 1 << 17;
 const ROOM: usize = 300;
 /// So many buffers are tried at each place that there are entries from.
 const ROOMS: usize = 4;
+/// Some of them are kinds in their low bits.
+const NO_KINDS: [u64; 6] = [5, 6, 255, 256, 1 << 32 | 2, u64::MAX];
 const WIDE: [&str; 4] = ["é", "日本", "\u{1f9ed}", "\u{fffd}"];
 
 pub fn lookups(c: &Contents, r: &mut Random) -> Vec<Call> {
@@ -38,6 +41,12 @@ pub fn each(r: &mut Random) -> Vec<Call> {
         Call::Link { id },
         Call::Extent { id, place },
     ]
+}
+
+/// A name of each kind and of none, for a volume that may not open.
+pub fn each_name(r: &mut Random) -> Vec<Call> {
+    let (id, place) = (r.pick(&[ROOT, 0, 16, u64::MAX]), r.pick(&[0, 0, 1, u64::MAX]));
+    (LABEL..=LINK).chain([r.pick(&NO_KINDS)]).map(|kind| Call::Replaced { kind, id, place }).collect()
 }
 
 fn path(c: &Contents, r: &mut Random) -> Vec<u8> {
@@ -134,6 +143,18 @@ pub fn in_one_call(l: &Lists, id: u64, r: &mut Random) -> Vec<Call> {
         out.extend((0..rooms).map(|_| Call::Entries { id, place, length: room(rest, r) }));
     }
     out
+}
+
+/// Of a name of one id, or of a place past the end of one of its lists.
+pub fn name(l: &Lists, id: u64, r: &mut Random) -> Call {
+    let kind = r.pick(&[INODE, ENTRY, ENTRY, ATTRIBUTE, ATTRIBUTE, LINK]);
+    let length = match kind {
+        ENTRY => l.entries.as_ref().map_or(0, Vec::len),
+        ATTRIBUTE => l.xattrs.as_ref().map_or(0, Vec::len),
+        _ => 0,
+    };
+    let place = if r.chance(1, 16) { u64::MAX } else { r.below(length as u64 + 1) };
+    Call::Replaced { kind, id, place }
 }
 
 /// About as long as none, some or all of the lines.

@@ -6,7 +6,7 @@ use oracle::nx::Container;
 use oracle::probe;
 
 use crate::calls::call::Call;
-use crate::calls::{line, names, stream};
+use crate::calls::{line, names, replaced, stream};
 use crate::image::Image;
 use crate::opening::answer::{self, caught};
 use crate::opening::outside::outside;
@@ -72,7 +72,7 @@ impl From<Told> for Expected {
     }
 }
 
-fn answered(text: impl Into<Vec<u8>>, kind: &'static str) -> Told {
+pub fn answered(text: impl Into<Vec<u8>>, kind: &'static str) -> Told {
     Ok((text.into(), Kind::Answered(kind)))
 }
 
@@ -119,11 +119,12 @@ pub fn of_volume(part: &[u8], c: &Container, v: &Volume, call: &Call) -> Expecte
         Call::XattrBytes { id, place } => xattr_bytes(part, c, v, *id, *place),
         Call::Link { id } => link(part, c, v, *id),
         Call::Extent { id, place } => extent(v, *id, *place),
+        Call::Replaced { kind, id, place } => replaced::of_volume(part, c, v, *kind, *id, *place),
     });
     told.map_or_else(|a| stopped(a, true), Expected::from)
 }
 
-fn at<T>(list: &[T], place: u64) -> Option<&T> {
+pub fn at<T>(list: &[T], place: u64) -> Option<&T> {
     usize::try_from(place).ok().and_then(|i| list.get(i))
 }
 

@@ -9,7 +9,9 @@ pub mod line;
 pub mod lists;
 pub mod met;
 pub mod names;
+pub mod replaced;
 pub mod run;
+mod stored;
 pub mod stream;
 pub mod tally;
 pub mod vast;
@@ -33,5 +35,6 @@ pub fn port(image: &[u8], volume: u64, call: &Call, out: &mut [u8]) -> i64 {
         Call::XattrBytes { id, place } => calls::xattr_bytes(image, volume, *id, *place, out),
         Call::Link { id } => calls::link(image, volume, *id, out),
         Call::Extent { id, place } => calls::extent(image, volume, *id, *place, out),
+        Call::Replaced { kind, id, place } => calls::replaced(image, volume, *kind, *id, *place, out),
     }
 }

@@ -7,7 +7,7 @@ use oracle::nx::Container;
 use oracle::probe;
 use sticks::contents::Contents;
 use sticks::random::Random;
-use sticks::{damage_at, Aim, Stick};
+use sticks::{damage_at, make, Aim, Stick};
 
 use crate::calls::call::Call;
 use crate::calls::check::Subject;
@@ -15,7 +15,7 @@ use crate::calls::expected::{self, Answer, Expected};
 use crate::calls::lists::Lists;
 use crate::calls::met::Met;
 use crate::calls::tally::Tally;
-use crate::calls::{draw, Port};
+use crate::calls::{draw, replaced, Port};
 use crate::image::Image;
 use crate::opening::answer::{self, caught};
 use crate::opening::run::stick_seed;
@@ -23,6 +23,8 @@ use crate::opening::shrink::shrink;
 
 /// How often each stick is damaged.
 const DAMAGES: u64 = 4;
+/// One stick of so many is made once more with patched names, and that one is damaged once.
+const PATCHED: u64 = 24;
 /// Of a damaged superblock's volumes, no more are asked about.
 const VOLUMES: u64 = 5;
 
@@ -37,7 +39,7 @@ pub struct Failure {
     pub seed: u64,
     /// The stick's place in the run.
     pub stick: u64,
-    /// Which damage, from 1; 0 for the stick as it was made.
+    /// Which damage, from 1; 0 for the stick as it was made, and past the last damage the one with patched names.
     pub damage: u64,
     pub mismatch: Box<Mismatch>,
     pub image: Arc<Vec<u8>>,
@@ -67,19 +69,21 @@ impl Run {
         let mut kept = Image::of(Vec::new());
         for i in 0..count {
             let whole = Stick::from_seed(stick_seed(seed, i));
-            for k in 0..=DAMAGES {
+            let patched = i.is_multiple_of(PATCHED).then(|| make(whole.plan.patched()));
+            let again = patched.iter().flat_map(|stick| [(stick, 0), (stick, 1)]);
+            for (n, (stick, k)) in (0..).zip((0..=DAMAGES).map(|k| (&whole, k)).chain(again)) {
                 let of = whole.plan.seed;
-                let image = if k == 0 { whole.image.clone() } else { damaged(&whole.image, of, k) };
-                let random = Random::new(of.wrapping_mul(31).wrapping_add(k));
+                let image = if k == 0 { stick.image.clone() } else { damaged(&stick.image, of, k) };
+                let random = Random::new(of.wrapping_mul(31).wrapping_add(n));
                 let (tally, met) = (&mut run.tally, &mut run.met);
                 let mut trial = Trial { image: Image::of(image), port, random, tally, met };
-                let checked = trial.stick(&whole);
+                let checked = trial.stick(stick).and_then(|()| if k == 0 { trial.names(stick) } else { Ok(()) });
                 let before = std::mem::replace(&mut kept, trial.image);
                 drop(before);
                 run.images += 1;
                 if let Err(mismatch) = checked {
                     let image = kept.whole;
-                    run.failure = Some(Failure { seed, stick: i, damage: k, mismatch, image });
+                    run.failure = Some(Failure { seed, stick: i, damage: n, mismatch, image });
                     return run;
                 }
             }
@@ -153,16 +157,26 @@ impl Trial<'_> {
 
     /// One call of each kind on what may be no volume.
     pub fn each(&mut self, volume: u64) -> Checked {
-        for call in draw::each(&mut self.random) {
+        let mut calls = draw::each(&mut self.random);
+        calls.push(self.name());
+        for call in calls {
             let want = expected::of_image(&self.image, volume, &call);
             self.judge(volume, call, want)?;
         }
         Ok(())
     }
 
+    /// A name of some kind, or of none.
+    fn name(&mut self) -> Call {
+        let all = draw::each_name(&mut self.random);
+        self.random.pick(&all)
+    }
+
     fn volume(&mut self, part: &[u8], c: &Container, i: u64, plan: &Contents) -> Checked {
         let Ok(Ok(v)) = caught(|| c.volume(i as usize)) else { return self.each(i) };
-        for call in draw::lookups(plan, &mut self.random) {
+        let mut calls = draw::lookups(plan, &mut self.random);
+        calls.push(self.name());
+        for call in calls {
             let want = expected::of_volume(part, c, &v, &call);
             self.judge(i, call, want)?;
         }
@@ -171,10 +185,21 @@ impl Trial<'_> {
             self.met.count(&lists, probe::block_count(c), c.block_size().into());
             let mut calls = draw::on(&lists, id, c.block_size().into(), &mut self.random);
             calls.extend(draw::in_one_call(&lists, id, &mut self.random));
+            let name = draw::name(&lists, id, &mut self.random);
+            calls.extend(self.random.chance(1, 2).then_some(name));
             for call in calls {
                 let want = expected::of_volume(part, c, &v, &call);
                 self.judge(i, call, want)?;
             }
+        }
+        Ok(())
+    }
+
+    /// Every name of the regular volumes of a stick as it was made, by its plan.
+    fn names(&mut self, stick: &Stick) -> Checked {
+        let regular = (0..).zip(&stick.plan.volumes).filter(|(_, v)| stick.plan.opens() && v.is_regular());
+        for (i, v) in regular {
+            replaced::planned(&v.contents).into_iter().try_for_each(|(call, want)| self.judge(i, call, want))?;
         }
         Ok(())
     }

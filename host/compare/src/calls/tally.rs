@@ -5,6 +5,7 @@ use std::fmt;
 
 use crate::calls::call::{Call, NAMES};
 use crate::calls::expected::Kind;
+use crate::calls::replaced;
 
 #[derive(Clone, Debug, Default)]
 pub struct Tally {
@@ -26,9 +27,11 @@ fn wanted(call: &str) -> Vec<Kind> {
         "entries" => (&["as many as fit", "to the end", "past the end"], &[6, 8]),
         "xattr" | "xattr_bytes" => (&["embedded", "stream", "past the end"], &[6, 8]),
         "link" => (&["embedded", "stream"], &[8]),
+        "replaced" => (&[replaced::NO_NAME, replaced::PAST], &[4, 8]),
         _ => (&["hole", "extent", "past the end"], &[8]),
     };
-    let kinds = kinds.iter().map(|k| Answered(k));
+    let names = replaced::SEEN.as_flattened().iter().filter(|_| call == "replaced");
+    let kinds = kinds.iter().chain(names).map(|k| Answered(k));
     let added = added.iter().copied().chain([NO_PARTITION_TABLE]);
     kinds.chain((1..=4).map(Refused)).chain(added.map(Added)).collect()
 }

@@ -1,9 +1,11 @@
 //! Two sticks at a time, the third demand by running: contents stored in two ways must list alike and
-//! answer every call alike, and contents with one thing changed must list otherwise.
+//! answer every call alike, and contents with one thing changed must list otherwise. A name that is damaged is told from
+//! one in which U+FFFD was typed by its number alone, which is no part of what is compared.
 
 pub mod by_oracle;
 pub mod change;
 pub mod layout;
+pub mod mark;
 pub mod pair;
 pub mod planned;
 pub mod questions;

@@ -1,7 +1,12 @@
 //! Two images, and whether a volume of each is the same to whoever calls.
 
+use sticks::random::Random;
+
 use crate::calls::call::Call;
-use crate::calls::check::pattern;
+use crate::calls::check::{pattern, Subject};
+use crate::calls::expected::Expected;
+use crate::calls::replaced;
+use crate::pairs::mark::Marked;
 use crate::pairs::Ports;
 
 /// Longer listings are refused with 6 on both.
@@ -50,6 +55,34 @@ impl Pair<'_> {
             return Err("the listings are the same".into());
         }
         Ok(())
+    }
+
+    /// In a name of the first U+FFFD was typed, and in the second it is damaged there: the two are told apart by that
+    /// name's number, and by nothing else. The bytes of a link are an attribute's contents too, and shown as such.
+    pub fn marked(&self, m: &Marked, calls: &[Call], r: &mut Random) -> Result<(), String> {
+        match m.link {
+            Some(id) => drop(self.same_call(&Call::Link { id })?),
+            None => {
+                self.same_list()?;
+                calls.iter().try_for_each(|call| self.same_call(call).map(drop))?;
+            }
+        }
+        let (typed, damaged) = (replaced::planned(&m.typed), replaced::planned(&m.damaged));
+        let both = || typed.iter().zip(&damaged).map(|((call, typed), (_, damaged))| (call, typed, damaged));
+        let differ: Vec<&Call> = both().filter(|(_, a, b)| a.answer != b.answer).map(|(call, ..)| call).collect();
+        if differ != [&m.call] {
+            return Err(format!("the plans differ in {differ:?} and not in {}", m.call));
+        }
+        for (call, typed, damaged) in both() {
+            self.number(0, call, typed, r)?;
+            self.number(1, call, damaged, r)?;
+        }
+        Ok(())
+    }
+
+    fn number(&self, which: usize, call: &Call, want: &Expected, r: &mut Random) -> Result<(), String> {
+        let subject = Subject { port: self.ports.call, image: self.images[which], volume: self.volume, call };
+        subject.check(want, r).map_err(|e| format!("{call}, {}: {e}", ["typed", "damaged"][which]))
     }
 }
 

@@ -9,7 +9,7 @@ use sticks::{make, Stick};
 use crate::opening::run::stick_seed;
 use crate::pairs::pair::{Pair, Said, LISTING};
 use crate::pairs::tally::Tally;
-use crate::pairs::{change, layout, planned, questions, Ports};
+use crate::pairs::{change, layout, mark, planned, questions, Ports};
 
 /// How many changes are tried on each volume.
 const CHANGES: usize = 8;
@@ -29,8 +29,8 @@ pub struct Run {
     pub failure: Option<Failure>,
 }
 
-/// What went wrong, and the second image.
-type Checked<T> = Result<T, (String, Vec<u8>)>;
+/// What went wrong, and both images.
+type Checked<T> = Result<T, (String, [Vec<u8>; 2])>;
 
 impl Run {
     /// Over `count` sticks. Stops at the first failure.
@@ -46,8 +46,7 @@ impl Run {
             for volume in regular {
                 let random = Random::new(first.plan.seed ^ volume as u64);
                 let mut trial = Trial { ports, first: &first, volume, random, tally: &mut run.tally };
-                if let Err((words, second)) = trial.volume() {
-                    let images = [first.image, second];
+                if let Err((words, images)) = trial.volume() {
                     run.failure = Some(Failure { seed, stick, volume, words, images });
                     return run;
                 }
@@ -87,11 +86,11 @@ impl<'a> Trial<'a> {
 
     fn volume(&mut self) -> Checked<()> {
         let listed = self.alike()?;
-        match planned::listing(self.contents(), LISTING) {
-            Ok(planned) => (0..CHANGES).try_for_each(|_| self.changed(&listed, &planned)),
-            // What comes after the refusal does not show.
-            Err(_) => Ok(()),
+        // Of a listing that is refused, what comes after the refusal does not show.
+        if let Ok(planned) = planned::listing(self.contents(), LISTING) {
+            (0..CHANGES).try_for_each(|_| self.changed(&listed, &planned))?;
         }
+        self.marked()
     }
 
     fn pair<'p>(&'p self, second: &'p Stick) -> Pair<'p> {
@@ -104,7 +103,7 @@ impl<'a> Trial<'a> {
         let second = make(self.first.plan.relaid(self.random.draw()));
         let calls = questions::drawn(self.contents(), &mut self.random);
         let pair = self.pair(&second);
-        let told = |words: String| (words, second.image.clone());
+        let told = |words: String| (words, [self.first.image.clone(), second.image.clone()]);
         let listed = pair.same_list().map_err(told)?;
         let said: Result<Vec<Said>, String> = calls.iter().map(|call| pair.same_call(call)).collect();
         let said = said.map_err(told)?;
@@ -130,8 +129,25 @@ impl<'a> Trial<'a> {
         }
         let second = make(plan);
         let pair = self.pair(&second);
-        pair.other_list(listed).map_err(|words| (format!("{kind} changed: {words}"), second.image.clone()))?;
+        let images = || [self.first.image.clone(), second.image.clone()];
+        pair.other_list(listed).map_err(|words| (format!("{kind} changed: {words}"), images()))?;
         self.tally.change(kind);
+        Ok(())
+    }
+
+    /// Two sticks as the first, but for a name in which U+FFFD was typed or that is damaged there.
+    fn marked(&mut self) -> Checked<()> {
+        let Some(m) = mark::drawn(self.contents(), &mut self.random) else { return Ok(()) };
+        let images = [&m.typed, &m.damaged].map(|contents| {
+            let mut plan = self.first.plan.clone();
+            plan.volumes[self.volume].contents = contents.clone();
+            make(plan).image
+        });
+        let calls = questions::drawn(&m.typed, &mut self.random);
+        let pair = Pair { ports: self.ports, images: [&images[0], &images[1]], volume: self.volume as u64 };
+        let checked = pair.marked(&m, &calls, &mut self.random);
+        checked.map_err(|words| (format!("{} typed and damaged: {words}", m.what), images))?;
+        self.tally.mark(m.what);
         Ok(())
     }
 }

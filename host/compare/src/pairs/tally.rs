@@ -3,7 +3,7 @@
 use std::collections::BTreeMap;
 use std::fmt;
 
-use crate::pairs::{change, layout};
+use crate::pairs::{change, layout, mark};
 
 #[derive(Clone, Debug, Default)]
 pub struct Tally {
@@ -16,6 +16,8 @@ pub struct Tally {
     pub calls: u64,
     pub layouts: BTreeMap<&'static str, u64>,
     pub changes: BTreeMap<&'static str, u64>,
+    /// Pairs of a name in which U+FFFD was typed and the same name damaged, by what name it is.
+    pub marks: BTreeMap<&'static str, u64>,
     /// Answers by call and refusal; a listing is a call.
     pub answers: BTreeMap<String, u64>,
 }
@@ -57,11 +59,16 @@ impl Tally {
         *self.changes.entry(kind).or_default() += 1;
     }
 
+    pub fn mark(&mut self, name: &'static str) {
+        *self.marks.entry(name).or_default() += 1;
+    }
+
     pub fn missing(&self) -> Vec<String> {
         let layouts = layout::KINDS.into_iter().filter(|k| !self.layouts.contains_key(k)).map(String::from);
         let changes = change::names().filter(|k| !self.changes.contains_key(k)).map(String::from);
+        let marks = mark::NAMES.into_iter().filter(|k| !self.marks.contains_key(k)).map(|k| format!("{k} damaged"));
         let answers = WANTED.into_iter().map(String::from).filter(|k| !self.answers.contains_key(k));
-        layouts.chain(changes).chain(answers).collect()
+        layouts.chain(changes).chain(marks).chain(answers).collect()
     }
 }
 
@@ -74,6 +81,8 @@ impl fmt::Display for Tally {
         writeln!(f, "{} pairs of the same contents, which differ in: {}", self.alike, counts(&self.layouts))?;
         writeln!(f, "{} answers were the same: {}", self.calls, counts(&self.answers))?;
         writeln!(f, "{} pairs with one thing changed list otherwise: {}", self.changed, counts(&self.changes))?;
-        writeln!(f, "{} changes that don't show were left out", self.hidden)
+        writeln!(f, "{} changes that don't show were left out", self.hidden)?;
+        let marks: u64 = self.marks.values().sum();
+        writeln!(f, "{marks} pairs with a name typed and damaged differ in its number alone: {}", counts(&self.marks))
     }
 }

@@ -107,8 +107,8 @@ impl Drawing {
 
     /// One call of each kind.
     fn each(&mut self, volume: u64, out: &mut Vec<Asking>) {
-        for call in draw::each(&mut self.random).into_iter().filter(file::has_op) {
-            self.ask(volume, Asked::Call(call), out);
+        for asked in draw::each(&mut self.random).into_iter().map(Asked::Call).filter(file::has_op) {
+            self.ask(volume, asked, out);
         }
         self.ask(volume, Asked::List, out);
     }

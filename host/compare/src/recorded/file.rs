@@ -1,8 +1,8 @@
 //! The form of the file.
 //!
 //! A record is: op and refusal (1 byte each), volume, a, b (8 each), the buffer's length, the count that is answered, the
-//! CRC-32C register of all the buffer after the call, the input's length (4 each), the input. Numbers are little-endian.
-//! An op of 0 ends the file.
+//! CRC-32C register of all the buffer after the call, the input's length (4 each), the input: a path, or a name's kind
+//! (8). Numbers are little-endian. An op of 0 ends the file.
 
 use sticks::sums::crc32c;
 
@@ -67,10 +67,11 @@ impl File {
         self.push(Record { op: IMAGE, numbers: [0, image.len() as u64, kept], input: &input, ..Record::default() });
     }
 
+    /// A call that has an op.
     pub fn call(&mut self, q: &Question, told: &Told) {
-        let (op, a, b, input) = coded(&q.asked);
+        let (op, a, b, input) = coded(&q.asked).unwrap_or_else(|| panic!("no op: {q}"));
         let (refusal, count, sum) = answer(q, told);
-        self.push(Record { op, refusal, numbers: [q.volume, a, b], room: q.room, count, sum, input });
+        self.push(Record { op, refusal, numbers: [q.volume, a, b], room: q.room, count, sum, input: &input });
     }
 
     pub fn finish(mut self) -> Vec<u8> {
@@ -79,24 +80,26 @@ impl File {
     }
 }
 
-/// Whether `crates/cases` has an op for the call.
-pub fn has_op(call: &Call) -> bool {
-    !matches!(call, Call::Entries { .. } | Call::XattrBytes { .. })
+/// Whether `crates/cases` has an op for what is asked.
+pub fn has_op(asked: &Asked) -> bool {
+    coded(asked).is_some()
 }
 
-fn coded(asked: &Asked) -> (u8, u64, u64, &[u8]) {
-    match asked {
-        Asked::Open => (3, 0, 0, b""),
-        Asked::Call(Call::Lookup { path }) => (4, 0, 0, path),
-        Asked::Call(Call::Read { id, offset, .. }) => (5, *id, *offset, b""),
-        Asked::Call(Call::Entry { id, place }) => (6, *id, *place, b""),
-        Asked::Call(Call::Xattr { id, place }) => (7, *id, *place, b""),
-        Asked::Call(Call::Link { id }) => (8, *id, 0, b""),
-        Asked::Call(Call::Extent { id, place }) => (9, *id, *place, b""),
-        Asked::List => (10, 0, 0, b""),
-        Asked::Call(Call::Entries { id, place, .. }) => (11, *id, *place, b""),
-        Asked::Call(Call::XattrBytes { id, place }) => (12, *id, *place, b""),
-    }
+/// Op, a, b and input.
+fn coded(asked: &Asked) -> Option<(u8, u64, u64, Vec<u8>)> {
+    let none = Vec::new();
+    Some(match asked {
+        Asked::Open => (3, 0, 0, none),
+        Asked::Call(Call::Lookup { path }) => (4, 0, 0, path.clone()),
+        Asked::Call(Call::Read { id, offset, .. }) => (5, *id, *offset, none),
+        Asked::Call(Call::Entry { id, place }) => (6, *id, *place, none),
+        Asked::Call(Call::Xattr { id, place }) => (7, *id, *place, none),
+        Asked::Call(Call::Link { id }) => (8, *id, 0, none),
+        Asked::Call(Call::Extent { id, place }) => (9, *id, *place, none),
+        Asked::List => (10, 0, 0, none),
+        Asked::Call(Call::Replaced { kind, id, place }) => (11, *id, *place, kind.to_le_bytes().to_vec()),
+        Asked::Call(Call::Entries { .. } | Call::XattrBytes { .. }) => return None,
+    })
 }
 
 /// The refusal or 0, the count, and the buffer's sum.

@@ -1,6 +1,6 @@
-//! A file of calls on sticks with their answers, for replay without any Rust (`crates/cases`): document 01's cases, and a
-//! sample of calls on drawn sticks. An answer is the oracle's, or document 01's where the oracle can't tell; never the
-//! port's.
+//! A file of calls on sticks with their answers, for replay without any Rust (`crates/cases`): document 01's cases, a
+//! sample of calls on drawn sticks, and request 02's cases. An answer is the oracle's, or the papers' where the oracle
+//! can't tell; never the port's.
 
 pub mod asked;
 pub mod drawn;
@@ -8,10 +8,12 @@ pub mod file;
 pub mod read;
 pub mod stated;
 
-/// All of the file; an error says which case the oracle answers otherwise than document 01.
+/// All of the file; an error says which case the oracle answers otherwise than the papers.
 pub fn recorded(seed: u64) -> Result<Vec<u8>, String> {
     let mut file = file::File::default();
-    stated::write(&mut file)?;
+    stated::write(stated::groups(), &mut file)?;
     drawn::write(seed, &mut file);
+    // At the end, so that the records before them stay as they were.
+    stated::write(stated::of_names(), &mut file)?;
     Ok(file.finish())
 }

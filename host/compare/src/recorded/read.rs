@@ -61,8 +61,10 @@ fn asked(op: u8, a: u64, b: u64, room: usize, input: &[u8]) -> Result<Asked, Str
         8 => Asked::Call(Call::Link { id: a }),
         9 => Asked::Call(Call::Extent { id: a, place: b }),
         10 => Asked::List,
-        11 => Asked::Call(Call::Entries { id: a, place: b, length: room }),
-        12 => Asked::Call(Call::XattrBytes { id: a, place: b }),
+        11 => {
+            let kind = input.try_into().map_err(|_| format!("a kind of {} bytes", input.len()))?;
+            Asked::Call(Call::Replaced { kind: u64::from_le_bytes(kind), id: a, place: b })
+        }
         _ => return Err(format!("no op {op}")),
     })
 }

@@ -5,6 +5,7 @@
 
 mod lines;
 mod listing;
+mod numbers;
 mod recorded;
 mod stand;
 mod streams;

@@ -5,6 +5,7 @@ mod files;
 pub mod large;
 mod names;
 mod otherwise;
+mod patched;
 mod proper;
 mod ring;
 mod sample;
@@ -88,6 +89,16 @@ impl Plan {
         };
         let volumes = self.volumes.iter().enumerate().map(again).collect();
         Plan::around(volumes, seed, block_size, xid, None, r)
+    }
+
+    /// The same stick with names that a lossy reading patches up, or that only look so.
+    pub fn patched(&self) -> Plan {
+        let mut r = Random::new(!self.seed);
+        let mut plan = self.clone();
+        for v in &mut plan.volumes {
+            v.contents = patched::contents(&v.contents, self.block_size, &mut r);
+        }
+        plan
     }
 
     /// All else but what is given is drawn.

@@ -23,6 +23,34 @@ const WORDS: [&str; 16] = [
 const WIDE: [&str; 6] = ["é", "É", "Übung", "日本語", "ß", "\u{1f9ed}"];
 const ILL_FORMED: [&[u8]; 6] = [b"\xff", b"a\x80b", b"\xe2\x82", b"\xed\xa0\x80", b"\xf0\x9f\x92", b"\xc3("];
 
+const TYPED: &str = "\u{fffd}";
+/// Each way out of Table 3-7 of the Unicode Standard: bytes that continue nothing, sequences of 2, 3 and 4 bytes cut
+/// short, overlong ones, surrogates, what lies above U+10FFFF, and bytes that begin nothing.
+const BROKEN: [&[u8]; 22] = [
+    b"\x80",
+    b"\xbf",
+    b"\xc3",
+    b"\xe2",
+    b"\xe2\x82",
+    b"\xef\xbf",
+    b"\xf0",
+    b"\xf0\x9f",
+    b"\xf0\x9f\x92",
+    b"\xf4\x8f\xbf",
+    b"\xc0\x80",
+    b"\xc1\xbf",
+    b"\xe0\x80\x80",
+    b"\xe0\x9f\xbf",
+    b"\xf0\x80\x80\x80",
+    b"\xf0\x8f\xbf\xbf",
+    b"\xed\xa0\x80",
+    b"\xed\xbf\xbf",
+    b"\xf4\x90\x80\x80",
+    b"\xf5\x80\x80\x80",
+    b"\xfe",
+    b"\xff",
+];
+
 /// The longest whose length, with its zero byte, a hashed key can state.
 const LONGEST: u64 = 1022;
 
@@ -59,6 +87,27 @@ pub fn any(r: &mut Random) -> Vec<u8> {
         }
         _ => plain(r),
     }
+}
+
+/// A name that reads with U+FFFD in it for bytes that are no UTF-8, for one that was typed, for both, or for neither.
+/// Never of no bytes.
+pub fn patched(r: &mut Random) -> Vec<u8> {
+    let mut out = Vec::new();
+    let kinds = if r.chance(1, 4) { 3 } else { 6 };
+    for _ in 0..r.below(6) {
+        out.extend(match r.below(kinds) {
+            0 => r.pick(&WORDS).as_bytes(),
+            1 => r.pick(&WIDE).as_bytes(),
+            2 => TYPED.as_bytes(),
+            _ => r.pick(&BROKEN),
+        });
+    }
+    if out.is_empty() || r.chance(1, 4) {
+        // What stands behind a zero byte is no part of the name.
+        out.push(0);
+        out.extend(r.pick(&BROKEN));
+    }
+    out
 }
 
 /// What a symbolic link leads to.

@@ -1,7 +1,8 @@
-//! Document 01's cases and those of partition tables, each with what the papers say of it, and small sticks that show
-//! them.
+//! Document 01's cases and those of partition tables and patched names, each with what the papers say of it, and small
+//! sticks that show them.
 
 mod listing;
+mod names;
 mod opening;
 mod paths;
 mod reads;
@@ -106,10 +107,15 @@ pub fn groups() -> Vec<Group> {
     .collect()
 }
 
+/// Those of request 02.
+pub fn of_names() -> Vec<Group> {
+    names::groups()
+}
+
 /// An error tells each case that the oracle answers otherwise.
-pub fn write(file: &mut File) -> Result<(), String> {
+pub fn write(groups: Vec<Group>, file: &mut File) -> Result<(), String> {
     let mut wrong = Vec::new();
-    for group in groups() {
+    for group in groups {
         file.title(group.title);
         for (image, cases) in group.cases {
             file.image(&image);

@@ -86,7 +86,8 @@ impl Stand<'_> {
         Ok(data)
     }
 
-    pub fn link(&self, id: u64) -> Answer<Vec<u8>> {
+    /// The attribute of a link's text.
+    pub fn target(&self, id: u64) -> Answer<Attribute> {
         if !self.has(M::LinkWithoutInode) {
             self.inode(id)?;
         }
@@ -95,8 +96,12 @@ impl Stand<'_> {
             list.reverse();
         }
         let name = "com.apple.fs.symlink";
-        let is_link = |a: &&Attribute| a.name == name || self.has(M::LinkByStart) && a.name.starts_with("com.apple.");
-        let (data, _) = self.contents(list.iter().find(is_link).ok_or(2)?)?;
+        let is_link = |a: &Attribute| a.name == name || self.has(M::LinkByStart) && a.name.starts_with("com.apple.");
+        list.into_iter().find(is_link).ok_or(2)
+    }
+
+    pub fn link(&self, id: u64) -> Answer<Vec<u8>> {
+        let (data, _) = self.contents(&self.target(id)?)?;
         let end = data.iter().position(|&b| b == 0 && !self.has(M::LinkToTheEnd)).unwrap_or(data.len());
         if self.has(M::LinkOfBytes) {
             return Ok(data[..end].to_vec());

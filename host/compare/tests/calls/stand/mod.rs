@@ -3,6 +3,7 @@
 mod files;
 pub mod list;
 pub mod mistake;
+mod names;
 mod paths;
 mod records;
 mod tree;
@@ -68,6 +69,7 @@ impl Stand<'_> {
             Call::XattrBytes { id, place } => self.xattr_bytes(*id, *place, out.len()),
             Call::Link { id } => self.link(*id),
             Call::Extent { id, place } => self.extent(*id, *place),
+            Call::Replaced { kind, id, place } => self.replaced(*kind, *id, *place),
         }
     }
 }
@@ -103,6 +105,9 @@ pub fn answer(last: &Last, image: &[u8], volume: u64, call: &Call, out: &mut [u8
         if std::str::from_utf8(path).is_err() {
             return -5;
         }
+    }
+    if matches!((m, call), (M::KindFirst, Call::Replaced { kind, .. }) if *kind > 4) {
+        return -4;
     }
     let of = (image.as_ptr(), image.len());
     let mut last = last.borrow_mut();

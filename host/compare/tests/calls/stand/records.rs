@@ -15,6 +15,8 @@ pub struct Inode {
     pub group: u32,
     pub mode: u16,
     pub name: Option<String>,
+    /// The name's bytes.
+    pub stored: Option<Vec<u8>>,
     /// Size and allocated size.
     pub stream: Option<(u64, u64)>,
 }
@@ -24,6 +26,8 @@ pub struct Entry {
     pub date: u64,
     pub kind: u16,
     pub name: String,
+    /// The name's bytes.
+    pub stored: Vec<u8>,
 }
 
 pub enum Data {
@@ -33,6 +37,8 @@ pub enum Data {
 
 pub struct Attribute {
     pub name: String,
+    /// The name's bytes.
+    pub stored: Vec<u8>,
     pub flags: u16,
     pub data: Data,
 }
@@ -99,6 +105,7 @@ impl Stand<'_> {
             group: get32(b, 76),
             mode: get16(b, 80),
             name: None,
+            stored: None,
             stream: None,
         };
         self.fields(v.get(if self.has(M::FieldsAt82) { 82 } else { 92 }..).unwrap_or(&[]), &mut inode)?;
@@ -134,6 +141,9 @@ impl Stand<'_> {
             4 if !(first && inode.name.is_some()) => {
                 let name = text(data, self.has(M::NameToTheEnd));
                 inode.name = Some(name).filter(|n| !n.is_empty() || !self.has(M::EmptyNameAbsent));
+                if inode.stored.is_none() || !self.has(M::NumberOfFirstCopy) {
+                    inode.stored = Some(data.to_vec());
+                }
             }
             8 if !(first && inode.stream.is_some()) => {
                 let b = part(data, 0, if self.has(M::StreamNeeds40) { 40 } else { 16 })?;
@@ -153,25 +163,26 @@ impl Stand<'_> {
     pub fn entries_while(&self, id: u64, on: &dyn Fn(&[Entry]) -> bool) -> Answer<Vec<Entry>> {
         let mut out = Vec::new();
         self.records(id, 9, &mut |k, v| {
-            let name = self.entry_name(k)?;
+            let stored = self.entry_name(k)?;
+            let name = text(stored, self.has(M::NameToTheEnd));
             let b = part(v, 0, 18)?;
             let mask = if self.has(M::KindOf16Bits) { 0xffff } else { 0xf };
-            out.push(Entry { id: get64(b, 0), date: get64(b, 8), kind: get16(b, 16) & mask, name });
+            let stored = stored.to_vec();
+            out.push(Entry { id: get64(b, 0), date: get64(b, 8), kind: get16(b, 16) & mask, name, stored });
             Ok(on(&out))
         })?;
         Ok(out)
     }
 
-    fn entry_name(&self, key: &[u8]) -> Answer<String> {
+    fn entry_name<'k>(&self, key: &'k [u8]) -> Answer<&'k [u8]> {
         test(key.len() >= 12 || self.has(M::ShortKeyTaken) && key.len() >= 10, 2)?;
         let stated = if key.len() >= 12 { get32(key, 8) } else { u32::MAX };
         let mask = if self.has(M::LengthOf16Bits) { 0xffff } else { 0x3ff };
         let hashed = key.len() == 12 + (stated & mask) as usize;
         let plain = key.len() == 10 + usize::from(get16(key, 8)) && !self.has(M::HashedAlone);
-        let whole = self.has(M::NameToTheEnd);
         match (hashed, plain) {
-            (true, _) => Ok(text(&key[12..], whole)),
-            (false, true) => Ok(text(&key[10..], whole)),
+            (true, _) => Ok(&key[12..]),
+            (false, true) => Ok(&key[10..]),
             (false, false) => Err(2),
         }
     }
@@ -188,7 +199,8 @@ impl Stand<'_> {
             let (flags, data) = (get16(head, 0), part(v, 4, length)?);
             let is_stream = flags & if self.has(M::StreamByFlag2) { 2 } else { 1 } != 0;
             let data = if is_stream { self.stream_of(data)? } else { Data::Embedded(data.to_vec()) };
-            out.push(Attribute { name: text(part(k, 10, n)?, self.has(M::AttributeToTheEnd)), flags, data });
+            let stored = part(k, 10, n)?.to_vec();
+            out.push(Attribute { name: text(&stored, self.has(M::AttributeToTheEnd)), stored, flags, data });
             Ok(true)
         })?;
         Ok(out)
