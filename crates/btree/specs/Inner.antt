@@ -140,7 +140,7 @@ turnThen f b q m (turn.No e) i k s = refused e s
 
 -- the same search for another kind
 abbrev pub kinded : Search → ℕ → Search
-kinded q k = record { keys = record { reader = q .keys .reader; info = q .keys .info; id = q .keys .id; kind = k }; root = q .root; resolve = q .resolve }
+kinded q k = record { keys = record { reader = q .keys .reader; info = q .keys .info; id = q .keys .id; kind = k; hashed = q .keys .hashed }; root = q .root; resolve = q .resolve }
 
 abbrev pub notBelow : Answer Order → Bool
 notBelow (got Below) = false

@@ -27,6 +27,7 @@ pub struct Keys {
     pub info: Info,
     pub id: u64,
     pub kind: u8,
+    pub hashed: bool,
 }
 
 // The records of an id and a kind in the tree below a root.

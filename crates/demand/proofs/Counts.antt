@@ -10,6 +10,7 @@ use Rattle.btree.specs.Scan.{Part, through, gives, passed, ended, failed, treeP
 use Rattle.btree.specs.declared.entries.Search.{Search}
 use Rattle.btree.specs.declared.entries.Place.{Place}
 use Rattle.volume.specs.declared.Volume.{Volume}
+use Rattle.volume.specs.Rule.{hashedKeys}
 use Rattle.records.specs.Directory.{entryAt}
 use Rattle.records.specs.Attribute.{attributeAt}
 use Rattle.records.specs.Extent.{extentAt}
@@ -112,7 +113,7 @@ module _ (b : List ℕ) (v : Volume) where
 
   pub entries-even : (id s t : ℕ) → entriesOf b v id s .answer ≡ entriesOf b v id t .answer
   unfolding entriesOf
-  entries-even id s t = list-even b (entryAt (v .reader) b) (searchOf v id 9) s t
+  entries-even id s t = list-even b (entryAt (hashedKeys v) (v .reader) b) (searchOf v id 9) s t
 
   pub attributes-even : (id s t : ℕ) → attributesOf b v id s .answer ≡ attributesOf b v id t .answer
   unfolding attributesOf

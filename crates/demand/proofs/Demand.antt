@@ -6,7 +6,7 @@ use mathlib.Core.Bool.{true}
 use mathlib.Core.List.{List, [], _∷_, map}
 use native.Mathlib.Omega.{arith}
 use Rattle.error.specs.Answer.{Answer, got, _>>=_}
-use Rattle.error.proofs.Laws.{bound}
+use Rattle.error.proofs.Laws.{got-is, bound}
 use Rattle.bytes.specs.Part.{partOf}
 use Rattle.volume.specs.Open.{volumeOfImage}
 use Rattle.volume.specs.declared.Volume.{Volume}
@@ -19,7 +19,7 @@ use Rattle.demand.proofs.Shows.{heard, ShowsContents, listing-done}
 use Rattle.demand.proofs.Walks.{Reads, Ends, ends-past, ends-on, ends}
 use Rattle.demand.proofs.Views.{listings-same, lookups-same}
 use Rattle.demand.proofs.Callable.{Short, listings-same-to}
-use Rattle.demand.proofs.Inodes.{got-same, part-bytes}
+use Rattle.demand.proofs.Inodes.{part-bytes}
 use Rattle.demand.proofs.Reading.{volume-reads, volume-short}
 use Rattle.demand.proofs.Lookups.{opened-small}
 use Rattle.demand.proofs.Parts.{listing-of-view, lookup-of-view, opened-part}
@@ -83,7 +83,7 @@ module _ (part : List ℕ) (index : ℕ) (v : View) (h : viewOfPart part index �
   unfolding viewOfPart
   opened-volume =
       let b = bound (volumeOfImage part index .answer) (λ w. got (viewOf part w)) v h in
-      (b .0, (b .1 .0, got-same _ v (b .1 .1)))
+      (b .0, (b .1 .0, got-is _ v (b .1 .1)))
 
   opened-reads : Reads v
   opened-reads =

@@ -10,7 +10,7 @@ use lib.ListN.{length, getD, take, drop, length-take, List·getD-eq-default}
 use lib.Seq.{getD-take, getD-drop}
 use Rattle.error.specs.Answer.{Answer, got, no}
 use Rattle.error.specs.declared.Refusal.the-variants.{Corrupt}
-use Rattle.error.proofs.Laws.{le-cases, eq-cases, bound}
+use Rattle.error.proofs.Laws.{got-is, le-cases, eq-cases, bound}
 use Rattle.bytes.specs.Number.{numberAt}
 use Rattle.bytes.specs.Part.{partOf, spanAt}
 use Rattle.bytes.specs.declared.Number.the-variants as number
@@ -33,9 +33,6 @@ use Rattle.files.specs.File.{streamSize, sizeOf}
 use Rattle.extents.proofs.Verdicts.{le-or-gt}
 use Rattle.demand.specs.Demand.{Bytes}
 
-pub got-same : {A : Type 0} (x y : A) → got x ≡ got y → x ≡ y
-got-same x y e = cc
-
 -- an inode, its id and its extra fields
 pub record Parsed (p : Place) (id : ℕ) (v : List ℕ) (x : Inode) : Type 0 where
   pub named : x .id ≡ id
@@ -48,7 +45,7 @@ parsed p id v x e =
     let b = bound (timesIn v) _ x (a .1 .1) in
     let c = bound (ownerIn v) _ x (b .1 .1) in
     let d = bound (fieldsIn v) _ x (c .1 .1) in
-    let q = got-same _ x (d .1 .1) in
+    let q = got-is _ x (d .1 .1) in
     record { named = sym (ap (λ (i : Inode). i .id) q); fields = d .1 .0 ∙ ap (λ (i : Inode). got (i .fields)) q }
 
 -- the place where it was read
@@ -88,16 +85,16 @@ unfolding streamField
 stream-small b f h e =
     let a = bound (numberAt 8 b 0) _ f e in
     let c = bound (numberAt 8 b 8) _ f (a .1 .1) in
-    subst Small (got-same _ f (c .1 .1)) (number-small b 0 (a .0) h (a .1 .0))
+    subst Small (got-is _ f (c .1 .1)) (number-small b 0 (a .0) h (a .1 .0))
 
 field-small : (v : List ℕ) (kind : ℕ) (s : Span) (f : Fields) → Bytes v → fieldIn v kind s ≡ got f → Small f
 unfolding fieldIn
 field-small v kind s f h =
     eq-cases (λ (a : Answer Fields). a ≡ got f → Small f)
-    (λ k e. subst Small (got-same _ f e) (omega arith))
+    (λ k e. subst Small (got-is _ f e) (omega arith))
     (λ k. eq-cases (λ (a : Answer Fields). a ≡ got f → Small f)
     (λ k e. stream-small (partOf v s) f (part-bytes v s h) e)
-    (λ k e. subst Small (got-same _ f e) (omega arith)))
+    (λ k e. subst Small (got-is _ f e) (omega arith)))
 
 at-small : (v : List ℕ) (head off : ℕ) (f : Fields) → Bytes v → fieldAt v head off ≡ got f → Small f
 unfolding fieldAt
@@ -110,7 +107,7 @@ later-small stream.Absent b p q = q
 
 from-small : (v : List ℕ) → Bytes v → (n i off : ℕ) (f g : Fields) → Small f → fieldsFrom v n i off f ≡ got g → Small g
 unfolding fieldsFrom
-from-small v h zero i off f g k e = subst Small (got-same f g e) k
+from-small v h zero i off f g k e = subst Small (got-is f g e) k
 from-small v h (suc n) i off f g k e =
     let a = bound (numberAt 4 v _) _ g e in
     let c = bound (fieldAt v (a .0) off) _ g (a .1 .1) in
@@ -121,7 +118,7 @@ unfolding fieldsIn
 fields-small v g h =
     le-cases (λ (a : Answer Fields). a ≡ got g → Small g)
     (λ k e. let a = bound (numberAt 2 v 92) _ g e in from-small v h (a .0) 0 _ _ g (omega arith) (a .1 .1))
-    (λ k e. subst Small (got-same _ g e) (omega arith))
+    (λ k e. subst Small (got-is _ g e) (omega arith))
 
 pub inode-small : (b : List ℕ) (v : Volume) (id s : ℕ) (x : Inode) → Bytes b → inodeOf b v id s .answer ≡ got x → sizeOf x < 2 ^ 64
 unfolding valueOf blockOf

@@ -7,7 +7,7 @@ use native.Mathlib.Omega.{arith}
 use lib.Dec.{eqb}
 use lib.ListN.{length}
 use Rattle.error.specs.Answer.{Answer, got}
-use Rattle.error.proofs.Laws.{at-most}
+use Rattle.error.proofs.Laws.{got-is, at-most}
 use Rattle.text.specs.Words.{ascii, places, digits, signed, glyph, pairs}
 use Rattle.lines.specs.Shown.{InodeShown}
 use Rattle.lines.specs.Lines.{volumeLine, nodeLine, contentsLine, entryLine, close}
@@ -18,7 +18,6 @@ use Rattle.demand.specs.Demand.{here, place, onward, follow, Agree, past
 use Rattle.demand.specs.Listers.{writing, ours, fixedText, rootAlone, imageItself, smallInode, smallFile, smallView, smallAt, smallFind, ShutOut, WrongListers}
 use Rattle.demand.proofs.Walks.{Reads}
 use Rattle.demand.proofs.Callable.{Short}
-use Rattle.demand.proofs.Inodes.{got-same}
 use Rattle.demand.proofs.Parts.{listing-of-view}
 use Rattle.demand.proofs.Demand.{demand-met}
 use Rattle.demand.proofs.Edges.{unpacked}
@@ -56,7 +55,7 @@ shut-out view find = record {
 small-reads : (b : ℕ) → Reads (smallView b)
 small-reads b = record {
   of-packed = λ i f h p off len. absurd (unpacked i f h p);
-  of-plain = λ i f bs h p q off len. let e : smallFile b f.id ≡ bs = got-same _ bs q in rw e;
+  of-plain = λ i f bs h p q off len. let e : smallFile b f.id ≡ bs = got-is _ bs q in rw e;
 }
 
 small-length : (b : ℕ) (x : Bool) → length (cond x (b ∷ []) []) ≤ 2 ^ 64 - 1
@@ -64,12 +63,12 @@ small-length b true = omega arith
 small-length b false = omega arith
 
 small-short : (b : ℕ) → Short (2 ^ 64 - 1) (smallView b)
-small-short b = record { short = λ i f bs h q. let e : smallFile b f.id ≡ bs = got-same _ bs q in rw (← e) (small-length b (eqb f.id 4)) }
+small-short b = record { short = λ i f bs h q. let e : smallFile b f.id ≡ bs = got-is _ bs q in rw (← e) (small-length b (eqb f.id 4)) }
 
 small-met : DemandOn smallAt smallFind (writing ours smallAt)
 unfolding writing listing
 small-met = demand-met smallAt smallFind (writing ours smallAt) (λ image index room. refl) (λ image index path. refl)
-    (λ image index v h. subst Reads (got-same _ v h) (small-reads _)) (λ image index v h k. subst (Short (2 ^ 64 - 1)) (got-same _ v h) (small-short _))
+    (λ image index v h. subst Reads (got-is _ v h) (small-reads _)) (λ image index v h k. subst (Short (2 ^ 64 - 1)) (got-is _ v h) (small-short _))
 
 -- its whole listing
 small-listed : trace (smallView 0)

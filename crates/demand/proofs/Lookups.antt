@@ -18,7 +18,7 @@ use Rattle.records.specs.declared.directory.Entry.{Entry}
 use Rattle.inode_record.specs.declared.inode.Inode.{Inode}
 use Rattle.lists.specs.Lists.{entriesOf, inodeOf}
 use Rattle.paths.specs.Parts.{partsOf}
-use Rattle.paths.specs.Names.{ruleOf}
+use Rattle.volume.specs.Rule.{ruleOf}
 use Rattle.paths.specs.Find.{findEntry}
 use Rattle.paths.specs.Lookup.{nameRead, lookupPath}
 use Rattle.paths.proofs.Answers.{find-map, walkAnswers, lookup-answers}

@@ -8,7 +8,7 @@ use borrow.Author.Tests.{eqb-true}
 use lib.ListN.{length, take, drop}
 use Rattle.error.specs.Answer.{Answer, got, no}
 use Rattle.error.specs.declared.Refusal.the-variants.{Unsupported}
-use Rattle.error.proofs.Laws.{eq-cases, bound}
+use Rattle.error.proofs.Laws.{got-is, eq-cases, bound}
 use Rattle.lookup.specs.Counted.{Counted, after, from}
 use Rattle.volume.specs.declared.Volume.{Volume}
 use Rattle.records.specs.declared.extent.Extent.{Extent}
@@ -24,7 +24,7 @@ use Rattle.files.proofs.FileParts.{compressed-read, file-part}
 use Rattle.lines.specs.Shown.{InodeShown, inodeShown}
 use Rattle.demand.specs.Listing.{isPacked}
 use Rattle.demand.specs.Demand.{Bytes, inodeAnswer, contentsAnswer, readAnswer, viewOf}
-use Rattle.demand.proofs.Inodes.{got-same, inode-placed, inode-small}
+use Rattle.demand.proofs.Inodes.{inode-placed, inode-small}
 use Rattle.demand.proofs.Walks.{Reads}
 use Rattle.demand.proofs.Callable.{Short}
 
@@ -39,7 +39,7 @@ module _ (image : List ℕ) (v : Volume) where
   unfolding inodeAnswer inodeShown
   behind i f h =
       let a = bound (inodeOf image v i 0 .answer) _ f h in
-      let q : inodeShown (v .reader) image (a .0) ≡ f = got-same _ f (a .1 .1) in
+      let q : inodeShown (v .reader) image (a .0) ≡ f = got-is _ f (a .1 .1) in
       let n : f .id ≡ i = sym (ap (λ (g : InodeShown). g .id) q) ∙ inode-placed image v i 0 (a .0) (a .1 .0) .parts .named in
       record { it = a .0; found = ap (λ (k : ℕ). inodeOf image v k 0 .answer) n ∙ a .1 .0; shown = q }
 

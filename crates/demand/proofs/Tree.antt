@@ -2,7 +2,7 @@
 -- node form". Each function of the text takes what is to follow, `x`.
 use Prim.Native.Nat.{ℕ}
 use mathlib.Core.List.{List, [], _∷_}
-use Rattle.paths.specs.declared.compare.NameRule.{NameRule}
+use Rattle.volume.specs.declared.rule.NameRule.{NameRule}
 use Rattle.lines.specs.Shown.{InodeShown, EntryShown, AttributeShown, Contents}
 use Rattle.lines.specs.Lines.{volumeLine, nodeLine, attributeLine, contentsLine, entryLine, close}
 

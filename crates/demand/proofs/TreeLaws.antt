@@ -5,7 +5,7 @@ use mathlib.Core.Bool.{Bool, true, false}
 use mathlib.Core.List.{List, [], _∷_, _++_, append-assoc}
 use lib.ListN.{drop}
 use native.Mathlib.Omega.{arith}
-use Rattle.paths.specs.declared.compare.NameRule.{NameRule}
+use Rattle.volume.specs.declared.rule.NameRule.{NameRule}
 use Rattle.lines.specs.Shown.{InodeShown, EntryShown, AttributeShown, Form, embedded, streamed, Contents, packed, plain}
 use Rattle.lines.specs.Lines.{bit, volumeLine, nodeLine, formText, attributeLine, contentsLine, entryLine, close}
 use Rattle.lines.proofs.After.{volume-append, node-append, attribute-append, contents-append, entry-append, close-append}

@@ -10,9 +10,10 @@ use Rattle.error.specs.Answer.{Answer, got, no, _>>=_, pick}
 use Rattle.error.specs.declared.Refusal.{Refusal}
 use Rattle.error.specs.declared.Refusal.the-variants.{Unsupported, NotFound, CharacterNotCovered}
 use Rattle.utf8.specs.Text.{sameBytes}
-use Rattle.paths.specs.Names.{insensitive, wide, sameKeys}
+use Rattle.volume.specs.Rule.{insensitive}
+use Rattle.paths.specs.Names.{wide, sameKeys}
 use Rattle.paths.specs.Find.{exactMatch, keyMatch, findEntry}
-use Rattle.paths.specs.declared.compare.NameRule.{NameRule}
+use Rattle.volume.specs.declared.rule.NameRule.{NameRule}
 use Rattle.lines.specs.Shown.{InodeShown, EntryShown, AttributeShown, Contents, packed, plain}
 use Rattle.demand.proofs.Tree.{Tree, node, Entries, none, entry}
 use Rattle.demand.specs.View.{View}

@@ -35,7 +35,7 @@ use Rattle.label.specs.Label.{labelOf}
 use Rattle.lists.specs.Lists.{rootId, inodeOf, entriesOf, attributesOf}
 use Rattle.files.specs.File.{readFile, readWhole}
 use Rattle.links.specs.Link.{contentsOf}
-use Rattle.paths.specs.Names.{ruleOf}
+use Rattle.volume.specs.Rule.{ruleOf}
 use Rattle.paths.specs.Lookup.{lookupPath}
 use Rattle.lines.specs.Shown.{InodeShown, EntryShown, AttributeShown, inodeShown, entryShown, attributeShown}
 use Rattle.demand.specs.View.{View}

@@ -3,7 +3,7 @@
 use Prim.Native.Nat.{ℕ}
 use mathlib.Core.List.{List}
 use Rattle.error.specs.Answer.{Answer}
-use Rattle.paths.specs.declared.compare.NameRule.{NameRule}
+use Rattle.volume.specs.declared.rule.NameRule.{NameRule}
 use Rattle.lines.specs.Shown.{InodeShown, EntryShown, AttributeShown}
 
 -- the label and the name rule; then by id an inode, "the entries `read_dir` gives there", the attributes, "each attribute with the contents of its

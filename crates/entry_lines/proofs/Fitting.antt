@@ -22,6 +22,7 @@ use Rattle.btree.specs.declared.entries.Search.{Search}
 use Rattle.cursor.specs.Left.{left, runAt, inStep, Begins}
 use Rattle.cursor.specs.declared.steps.Step.{Step}
 use Rattle.volume.specs.declared.Volume.{Volume}
+use Rattle.volume.specs.Rule.{hashedKeys}
 use Rattle.records.specs.Directory.{entryAt, entryName}
 use Rattle.records.specs.declared.directory.Entry.{Entry}
 use Rattle.lists.specs.Lists.{searchOf}
@@ -155,36 +156,36 @@ module _ (rd : Reader) (image : List ℕ) (room n : ℕ) (b : List ℕ) where
 
 -- the turns of the loop
 module _ (rd : Reader) (image : List ℕ) (room : ℕ) (q : Search) (s : Step) (i : ℕ) where
-  pub lines-start : (place : ℕ) (b : List ℕ) → writes rd image room 0 place (readable (entryAt (q .keys .reader) image) (runAt image q s i)) b ≡ puts room (fitting room (linesOf rd image (drop place (readable (entryAt (q .keys .reader) image) (runAt image q s i))))) (at b 0)
+  pub lines-start : (place : ℕ) (b : List ℕ) → writes rd image room 0 place (readable (entryAt (q .keys .hashed) (q .keys .reader) image) (runAt image q s i)) b ≡ puts room (fitting room (linesOf rd image (drop place (readable (entryAt (q .keys .hashed) (q .keys .reader) image) (runAt image q s i))))) (at b 0)
   unfolding writes
   lines-start place b = let z : room - 0 ≡ room = omega arith in rw z
 
-  module _ (n left′ : ℕ) (b : List ℕ) (w : Output) (inv : writes rd image room n left′ (readable (entryAt (q .keys .reader) image) (runAt image q s i)) b ≡ w) (r : Seen Entry)
-      (l : r ≡ seenIn (entryAt (q .keys .reader) image) (inStep image q (s .reached) i)) where
-    none-left : readable (entryAt (q .keys .reader) image) (runAt image q s i) ≡ [] → at b n ≡ w
+  module _ (n left′ : ℕ) (b : List ℕ) (w : Output) (inv : writes rd image room n left′ (readable (entryAt (q .keys .hashed) (q .keys .reader) image) (runAt image q s i)) b ≡ w) (r : Seen Entry)
+      (l : r ≡ seenIn (entryAt (q .keys .hashed) (q .keys .reader) image) (inStep image q (s .reached) i)) where
+    none-left : readable (entryAt (q .keys .hashed) (q .keys .reader) image) (runAt image q s i) ≡ [] → at b n ≡ w
     none-left e = sym (writes-none rd image room n b left′) ∙ ap (λ (es : List Entry). writes rd image room n left′ es b) (sym e) ∙ inv
 
     pub lines-over : r ≡ over → at b n ≡ w
-    lines-over e = none-left (readable-over (entryAt (q .keys .reader) image) image q s i r l e)
+    lines-over e = none-left (readable-over (entryAt (q .keys .hashed) (q .keys .reader) image) image q s i r l e)
 
     pub lines-no : (z : Refusal) → r ≡ refusal z → at b n ≡ w
-    lines-no z e = none-left (readable-no (entryAt (q .keys .reader) image) image q s i r l z e)
+    lines-no z e = none-left (readable-no (entryAt (q .keys .hashed) (q .keys .reader) image) image q s i r l z e)
 
-    pub lines-passed : (t : Step) → r ≡ passed → Begins image q t (left image q (s .path) (s .level) (s .nodes)) → writes rd image room n left′ (readable (entryAt (q .keys .reader) image) (runAt image q t (t .from))) b ≡ w
-    lines-passed t e h = rw (readable-passed (entryAt (q .keys .reader) image) image q s i r l t e h) inv
+    pub lines-passed : (t : Step) → r ≡ passed → Begins image q t (left image q (s .path) (s .level) (s .nodes)) → writes rd image room n left′ (readable (entryAt (q .keys .hashed) (q .keys .reader) image) (runAt image q t (t .from))) b ≡ w
+    lines-passed t e h = rw (readable-passed (entryAt (q .keys .hashed) (q .keys .reader) image) image q s i r l t e h) inv
 
     module _ (e : Entry) (a : ℕ) (h : r ≡ element e a) where
       abbrev es : List Entry
-      es = readable (entryAt (q .keys .reader) image) (runAt image q s a)
+      es = readable (entryAt (q .keys .hashed) (q .keys .reader) image) (runAt image q s a)
 
       onward : writes rd image room n left′ (e ∷ es) b ≡ w
-      onward = ap (λ (x : List Entry). writes rd image room n left′ x b) (sym (readable-at (entryAt (q .keys .reader) image) image q s i r l e a h)) ∙ inv
+      onward = ap (λ (x : List Entry). writes rd image room n left′ x b) (sym (readable-at (entryAt (q .keys .hashed) (q .keys .reader) image) image q s i r l e a h)) ∙ inv
 
       module _ (g : n ≤ room) (x : List ℕ) (p : Position) (f : filledAt p x ≡ filledFrom room n (lineAt rd image left′ e) b) where
         pub lines-within : (m : ℕ) → p ≡ At m → m ≤ room
         lines-within m d = let y = from-got room n (lineAt rd image left′ e) b x m (ap (λ (u : Position). filledAt u x) (sym d) ∙ f) in omega arith
 
-        pub lines-next : (m k : ℕ) → p ≡ At m → k ≡ left′ - 1 → writes rd image room m k (readable (entryAt (q .keys .reader) image) (runAt image q s a)) x ≡ w
+        pub lines-next : (m k : ℕ) → p ≡ At m → k ≡ left′ - 1 → writes rd image room m k (readable (entryAt (q .keys .hashed) (q .keys .reader) image) (runAt image q s a)) x ≡ w
         lines-next m k d i = of (le-or-gt left′ 0) (from-got room n (lineAt rd image left′ e) b x m (ap (λ (u : Position). filledAt u x) (sym d) ∙ f))
           where
             of : (left′ ≤ 0) ⊎ (0 < left′) → (n + length (lineAt rd image left′ e) ≤ room) × ((m ≡ n + length (lineAt rd image left′ e)) × (x ≡ sets b n (lineAt rd image left′ e)))
@@ -209,8 +210,8 @@ module _ (rd : Reader) (image : List ℕ) (room : ℕ) (q : Search) (s : Step) (
             of (inr d) y = let y′ = rw (← line-later rd image left′ e d) at y in absurd (omega arith)
 
 pub lines-done : (image : List ℕ) (v : Volume) (id place room : ℕ) (q : Search) (s : Step) (b : List ℕ) (z : Output) → q ≡ searchOf v id 9
-    → z ≡ puts room (fitting room (linesOf (v .reader) image (drop place (readable (entryAt (q .keys .reader) image) (runAt image q s (s .from)))))) (at b 0)
-    → z ≡ puts room (fitting room (linesOf (v .reader) image (drop place (readable (entryAt (v .reader) image) (runAt image (searchOf v id 9) s (s .from)))))) (at b 0)
+    → z ≡ puts room (fitting room (linesOf (v .reader) image (drop place (readable (entryAt (q .keys .hashed) (q .keys .reader) image) (runAt image q s (s .from)))))) (at b 0)
+    → z ≡ puts room (fitting room (linesOf (v .reader) image (drop place (readable (entryAt (hashedKeys v) (v .reader) image) (runAt image (searchOf v id 9) s (s .from)))))) (at b 0)
 lines-done image v id place room q s b z e h = rw e at h
 
 -- the lines that fit lie within the room

@@ -23,6 +23,7 @@ use Rattle.btree.specs.declared.entries.Search.{Search}
 use Rattle.cursor.specs.Left.{runAt, Begins}
 use Rattle.cursor.specs.declared.steps.Step.{Step}
 use Rattle.volume.specs.declared.Volume.{Volume}
+use Rattle.volume.specs.Rule.{hashedKeys}
 use Rattle.records.specs.Directory.{entryAt}
 use Rattle.records.specs.declared.directory.Entry.{Entry}
 use Rattle.lists.specs.Lists.{searchOf, listOf, elementAt, placed, entriesOf}
@@ -73,7 +74,7 @@ drop-at (suc k) (y ∷ xs) x h = drop-at k xs x h
 
 -- the entries are those from the first step on
 module _ (image : List ℕ) (v : Volume) (id place s : ℕ) (b : List ℕ) (q₀ : Search) (t₀ : Step) (k₀ : q₀ ≡ searchOf v id 9) (g₀ : Begins image q₀ t₀ (scanOf image q₀ s)) (f : EntryFound)
-    (p : entryFound f ≡ placed place (listOf (entryAt (v .reader) image) (runAt image (searchOf v id 9) t₀ (t₀ .from)))) where
+    (p : entryFound f ≡ placed place (listOf (entryAt (hashedKeys v) (v .reader) image) (runAt image (searchOf v id 9) t₀ (t₀ .from)))) where
   begun : runAt image (searchOf v id 9) t₀ (t₀ .from) ≡ scanOf image (searchOf v id 9) s
   begun = rw k₀ at (g₀ .run)
 
@@ -85,7 +86,7 @@ module _ (image : List ℕ) (v : Volume) (id place s : ℕ) (b : List ℕ) (q₀
 
   told : entryPlaced (f .entry) ≡ at-place (entriesOf image v id s .answer)
   unfolding entriesOf
-  told = ap (λ (c : Counted (Option Entry)). c .answer) (p ∙ ap (λ (r : Run). placed place (listOf (entryAt (v .reader) image) r)) begun)
+  told = ap (λ (c : Counted (Option Entry)). c .answer) (p ∙ ap (λ (r : Run). placed place (listOf (entryAt (hashedKeys v) (v .reader) image) r)) begun)
 
   pub entries-past : f .entry ≡ EntryAt.Nothing → filledAt (At 0) b ≡ filledBy (entriesOn image v id place (length b) s .answer) b
   unfolding entriesOn fittingSome
@@ -104,7 +105,7 @@ module _ (image : List ℕ) (v : Volume) (id place s : ℕ) (b : List ℕ) (q₀
       of (no x) h = let d : w ≡ x = cc in rw d
 
   pub entries-here : (e : Entry) (z : Filled) → f .entry ≡ EntryAt.At e
-      → z ≡ entriesFrom (v .reader) image e (drop place (readable (entryAt (v .reader) image) (runAt image (searchOf v id 9) t₀ (t₀ .from)))) b → z ≡ filledBy (entriesOn image v id place (length b) s .answer) b
+      → z ≡ entriesFrom (v .reader) image e (drop place (readable (entryAt (hashedKeys v) (v .reader) image) (runAt image (searchOf v id 9) t₀ (t₀ .from)))) b → z ≡ filledBy (entriesOn image v id place (length b) s .answer) b
   unfolding entriesOn entriesOf entriesFrom fittingSome
   entries-here e z q h = of (entriesOf image v id s .answer) refl (ap entryPlaced (sym q) ∙ told)
     where
@@ -127,7 +128,7 @@ module _ (image : List ℕ) (v : Volume) (id place s : ℕ) (b : List ℕ) (q₀
       of (got es) k g =
           let d : elementAt place es ≡ some e = cc in
           let y = drop-at place es e d in
-          let u : readable (entryAt (v .reader) image) (runAt image (searchOf v id 9) t₀ (t₀ .from)) ≡ es = ap (readable (entryAt (v .reader) image)) begun ∙ listed (entryAt (v .reader) image) (scanOf image (searchOf v id 9) s) es k in
+          let u : readable (entryAt (hashedKeys v) (v .reader) image) (runAt image (searchOf v id 9) t₀ (t₀ .from)) ≡ es = ap (readable (entryAt (hashedKeys v) (v .reader) image)) begun ∙ listed (entryAt (hashedKeys v) (v .reader) image) (scanOf image (searchOf v id 9) s) es k in
           h ∙ rw (u, y .1) (both (y .0))
       of (no w) k g = absurd (let z : _≡_ {A = ℕ} 0 1 = cc in omega arith)
 

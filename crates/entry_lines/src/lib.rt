@@ -21,6 +21,7 @@ ghost use lib.ListN.{length, drop};
 ghost use Prim.Native.Nat.{_≤_};
 ghost use Rattle.text.specs.Output.{at, puts};
 ghost use Rattle.cursor.specs.Left.{runAt};
+ghost use Rattle.volume.specs.Rule.{hashedKeys};
 ghost use Rattle.records.specs.Directory.{entryAt};
 ghost use Rattle.lists.specs.Lists.{searchOf};
 ghost use Rattle.lists.specs.Inner.{readable};
@@ -66,7 +67,7 @@ fn put_entries(
     place: u64,
     start: Step,
 ) -> usize
-    ensures { λ r. ⌜ at (now (out .exit)) r ≡ puts room (fitting room (linesOf (v .reader) (now (image .entry)) (drop place (readable (entryAt (v .reader) (now (image .entry))) (runAt (now (image .entry)) (searchOf v id 9) start (start .from)))))) (at (now (out .entry)) 0) ⌝ }
+    ensures { λ r. ⌜ at (now (out .exit)) r ≡ puts room (fitting room (linesOf (v .reader) (now (image .entry)) (drop place (readable (entryAt (hashedKeys v) (v .reader) (now (image .entry))) (runAt (now (image .entry)) (searchOf v id 9) start (start .from)))))) (at (now (out .entry)) 0) ⌝ }
 {
     let q = search(v, id, 9);
     let keys = q.keys;
@@ -107,7 +108,7 @@ fn entries_from(
     start: Step,
     out: &mut [u8],
 ) -> Position
-    ensures { λ r. ⌜ filledAt r (now (out .exit)) ≡ entriesFrom (v .reader) (now (image .entry)) e (drop place (readable (entryAt (v .reader) (now (image .entry))) (runAt (now (image .entry)) (searchOf v id 9) start (start .from)))) (now (out .entry)) ⌝ }
+    ensures { λ r. ⌜ filledAt r (now (out .exit)) ≡ entriesFrom (v .reader) (now (image .entry)) e (drop place (readable (entryAt (hashedKeys v) (v .reader) (now (image .entry))) (runAt (now (image .entry)) (searchOf v id 9) start (start .from)))) (now (out .entry)) ⌝ }
 {
     let room = out.len();
     let reader = v.reader;

@@ -17,6 +17,7 @@ use Rattle.cursor.specs.declared.steps.Reached.{Reached}
 use Rattle.cursor.specs.declared.steps.Step.{Step}
 use Rattle.btree.specs.declared.entries.Place.{Place}
 use Rattle.btree.specs.declared.entries.Search.{Search}
+use Rattle.volume.specs.Rule.{hashedKeys}
 use Rattle.records.specs.Directory.{entryAt}
 use Rattle.volume.specs.declared.Volume.{Volume}
 use Rattle.records.specs.Attribute.{attributeAt}
@@ -110,10 +111,10 @@ both-tested {A} {B} a c p q r e f l = f l ∙ (ap (ending (endOf c)) (e l) ∙ o
     of (no w) = ended-once w (endOf c) (outputOf p l)
 
 pub lists-tested : (b : List ℕ) (v : Volume) (id : ℕ) (s t : Step) (p q r : Position) → Tested (listOf (attributeAt (v .reader) b) (runAt b (searchOf v id 4) s (s .from)) .answer) p q
-    → Tested (listOf (entryAt (v .reader) b) (runAt b (searchOf v id 9) t (t .from)) .answer) q r → Tested (listsOf b v id s t) p r
+    → Tested (listOf (entryAt (hashedKeys v) (v .reader) b) (runAt b (searchOf v id 9) t (t .from)) .answer) q r → Tested (listsOf b v id s t) p r
 unfolding listsOf
 lists-tested b v id s t p q r =
-    both-tested (listOf (attributeAt (v .reader) b) (runAt b (searchOf v id 4) s (s .from)) .answer) (listOf (entryAt (v .reader) b) (runAt b (searchOf v id 9) t (t .from)) .answer) p q r
+    both-tested (listOf (attributeAt (v .reader) b) (runAt b (searchOf v id 4) s (s .from)) .answer) (listOf (entryAt (hashedKeys v) (v .reader) b) (runAt b (searchOf v id 9) t (t .from)) .answer) p q r
 
 -- the attributes are those of the run m, the entries those of the run n
 module _ (room : ℕ) (b : List ℕ) (v : Volume) (i : Inode) (m n : Run) (o p : Output) (h : p ≡ puts room (nodeLine (inodeShown (v .reader) b i) []) o) (whole : m ≡ scanOf b (searchOf v (i .id) 4) 0) where
@@ -121,7 +122,7 @@ module _ (room : ℕ) (b : List ℕ) (v : Volume) (i : Inode) (m n : Run) (o p :
   attributes = listOf (attributeAt (v .reader) b) m .answer
 
   abbrev entries : Answer (List Entry)
-  entries = listOf (entryAt (v .reader) b) n .answer
+  entries = listOf (entryAt (hashedKeys v) (v .reader) b) n .answer
 
   -- what follows the line
   abbrev lists : Answer (List Attribute) → Answer (List Entry) → Trace

@@ -16,6 +16,7 @@ use Rattle.records.specs.declared.attribute.Attribute.{Attribute}
 use Rattle.records.specs.declared.attribute.StreamData.{StreamData}
 use Rattle.inode_record.specs.declared.inode.Inode.{Inode}
 use Rattle.records.specs.Attribute.{attributeAt}
+use Rattle.volume.specs.Rule.{hashedKeys}
 use Rattle.records.specs.Directory.{entryAt}
 use Rattle.records.specs.declared.directory.Entry.{Entry}
 use Rattle.lists.specs.Lists.{searchOf, listOf, attributesOf}
@@ -73,12 +74,12 @@ dataTrace b v i = ifEq (compressed i) 1 (says (contentsLine shown.packed [])) (p
 -- "all its attributes, then all its entries, are read", each from the step that begins them
 unfoldable pub listsOf : List ℕ → Volume → ℕ → Step → Step → Answer (List Entry)
 listsOf b v id s t =
-    listOf (attributeAt (v .reader) b) (runAt b (searchOf v id 4) s (s .from)) .answer >>= λ l. listOf (entryAt (v .reader) b) (runAt b (searchOf v id 9) t (t .from)) .answer
+    listOf (attributeAt (v .reader) b) (runAt b (searchOf v id 4) s (s .from)) .answer >>= λ l. listOf (entryAt (hashedKeys v) (v .reader) b) (runAt b (searchOf v id 9) t (t .from)) .answer
 
 -- a node up to its entries: "all its attributes, then all its entries, are read"; the entries are those of a run
 unfoldable pub headTrace : List ℕ → Volume → Inode → Run → Trace
 headTrace b v i r =
     says (nodeLine (inodeShown (v .reader) b i) []) then
     reading (attributesOf b v (i .id) 0 .answer) λ l.
-    reading (listOf (entryAt (v .reader) b) r .answer) λ es.
+    reading (listOf (entryAt (hashedKeys v) (v .reader) b) r .answer) λ es.
     attributeTraces b v l then dataTrace b v i

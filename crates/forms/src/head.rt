@@ -19,6 +19,7 @@ ghost use Rattle.text.specs.Output.{outputOf};
 ghost use Rattle.cursor.specs.Left.{runAt};
 ghost use Rattle.cursor.specs.Way.{Leads};
 ghost use Rattle.records.specs.Attribute.{attributeAt};
+ghost use Rattle.volume.specs.Rule.{hashedKeys};
 ghost use Rattle.records.specs.Directory.{entryAt};
 ghost use Rattle.lists.specs.Lists.{searchOf, listOf};
 ghost use Rattle.forms.specs.Inner.{run, Tested, listsOf, headTrace};
@@ -41,7 +42,7 @@ fn read_attributes(p: Position, image: &[u8], v: Volume, id: u64, start: Step) -
 }
 
 fn read_entries(p: Position, image: &[u8], v: Volume, id: u64, start: Step) -> Position
-    ensures { λ r. ⌜ Tested (listOf (entryAt (v .reader) (now (image .entry))) (runAt (now (image .entry)) (searchOf v id 9) start (start .from)) .answer) p r ⌝ }
+    ensures { λ r. ⌜ Tested (listOf (entryAt (hashedKeys v) (v .reader) (now (image .entry))) (runAt (now (image .entry)) (searchOf v id 9) start (start .from)) .answer) p r ⌝ }
 {
     let reached = start.reached;
     if let Reached::End = reached {

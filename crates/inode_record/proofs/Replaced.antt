@@ -7,7 +7,7 @@ use native.Mathlib.Omega.{arith}
 use lib.ListN.{length}
 use Rattle.error.specs.Answer.{Answer, got}
 use Rattle.error.specs.declared.Refusal.the-variants.{Corrupt}
-use Rattle.error.proofs.Laws.{bound, eq-cases, le-cases}
+use Rattle.error.proofs.Laws.{got-is, bound, eq-cases, le-cases}
 use Rattle.bytes.specs.Number.{numberAt}
 use Rattle.bytes.specs.Part.{partOf, spanAt, upToZero}
 use Rattle.bytes.specs.declared.Span.{Span}
@@ -26,9 +26,6 @@ use Rattle.inode_record.specs.declared.fields.NameField.the-variants as 
 use Rattle.inode_record.specs.declared.fields.StreamField.{StreamField}
 use Rattle.inode_record.specs.declared.inode.Inode.{Inode}
 
-got-same : {A : Type 0} (x y : A) → got x ≡ got y → x ≡ y
-got-same x y e = cc
-
 -- where a name was found, it is that of a part of the value
 Held : List ℕ → Fields → Type 0
 Held v f = (n : Name) → f .name ≡ name.At n → (s : Span) × (n ≡ nameOf v s)
@@ -46,16 +43,16 @@ unfolding streamField
 stream-held v s f e =
     let a = bound (numberAt 8 (partOf v s) 0) _ f e in
     let b = bound (numberAt 8 (partOf v s) 8) _ f (a .1 .1) in
-    none-held v f (sym (ap (λ (g : Fields). g .name) (got-same _ f (b .1 .1))))
+    none-held v f (sym (ap (λ (g : Fields). g .name) (got-is _ f (b .1 .1))))
 
 field-held : (v : List ℕ) (kind : ℕ) (s : Span) (f : Fields) → fieldIn v kind s ≡ got f → Held v f
 unfolding fieldIn
 field-held v kind s f =
     eq-cases (λ (a : Answer Fields). a ≡ got f → Held v f)
-    (λ k e. subst (Held v) (got-same _ f e) (name-held v s _))
+    (λ k e. subst (Held v) (got-is _ f e) (name-held v s _))
     (λ k. eq-cases (λ (a : Answer Fields). a ≡ got f → Held v f)
     (λ k e. stream-held v s f e)
-    (λ k e. none-held v f (sym (ap (λ (g : Fields). g .name) (got-same _ f e)))))
+    (λ k e. none-held v f (sym (ap (λ (g : Fields). g .name) (got-is _ f e)))))
 
 later-held : (v : List ℕ) (f g : Fields) → Held v f → Held v g → Held v (mergedOf f g)
 unfolding Held laterName
@@ -71,7 +68,7 @@ at-held v head off f e = let a = bound (spanAt Corrupt (length v) off (head / 65
 
 all-held : (v : List ℕ) (n i off : ℕ) (f g : Fields) → Held v f → fieldsFrom v n i off f ≡ got g → Held v g
 unfolding fieldsFrom
-all-held v zero i off f g h e = subst (Held v) (got-same f g e) h
+all-held v zero i off f g h e = subst (Held v) (got-is f g e) h
 all-held v (suc n) i off f g h e =
     let a = bound (numberAt 4 v (96 + 4 * i)) _ g e in
     let b = bound (fieldAt v (a .0) off) _ g (a .1 .1) in
@@ -82,7 +79,7 @@ unfolding fieldsIn
 fields-held v f =
     le-cases (λ (a : Answer Fields). a ≡ got f → Held v f)
     (λ k e. let a = bound (numberAt 2 v 92) _ f e in all-held v (a .0) 0 _ noFields f (none-held v noFields refl) (a .1 .1))
-    (λ k e. none-held v f (sym (ap (λ (g : Fields). g .name) (got-same _ f e))))
+    (λ k e. none-held v f (sym (ap (λ (g : Fields). g .name) (got-is _ f e))))
 
 pub inode-named : (r : Reader) (b : List ℕ) (p : Place) (id : ℕ) (x : Inode) (n : Name) → inodeAt r b p id ≡ got x → x .fields .name ≡ name.At n
     → (s : Span) × ((inodeName r b (x .place) n ≡ upToZero (partOf (valueOf r b p) s)) × (n .replaced ≡ replaced (inodeName r b (x .place) n)))
@@ -93,7 +90,7 @@ inode-named r b p id x n e h =
     let c = bound (timesIn v) _ x (a .1 .1) in
     let d = bound (ownerIn v) _ x (c .1 .1) in
     let f = bound (fieldsIn v) _ x (d .1 .1) in
-    let q = got-same _ x (f .1 .1) in
+    let q = got-is _ x (f .1 .1) in
     let k : p ≡ x .place = ap (λ (i : Inode). i .place) q in
     let w = fields-held v (f .0) (f .1 .0) n (ap (λ (i : Inode). i .fields .name) q ∙ h) in
     (w .0, name-facts (valueOf r b (x .place)) v (w .0) n (ap (valueOf r b) (sym k)) (w .1))

@@ -20,6 +20,7 @@ use Rattle.cursor.specs.declared.steps.Step.{Step}
 use Rattle.cursor.specs.declared.way.Way.{Way}
 use Rattle.volume.specs.declared.Volume.{Volume}
 use Rattle.inode_record.specs.Inode.{inodeTold}
+use Rattle.volume.specs.Rule.{hashedKeys}
 use Rattle.records.specs.Directory.{entryAt}
 use Rattle.records.specs.declared.directory.Entry.{Entry}
 use Rattle.inode_record.specs.declared.inode.Inode.{Inode}
@@ -65,39 +66,39 @@ module _ (room : ℕ) (b : List ℕ) (v : Volume) (id levels : ℕ) (o z : Outpu
     -- the head, the loop that ended, and the end of the node
     pub node-whole : (i : Inode) (x y : Output) (q : Search) (t s : Step) (n : ℕ) → r .inode ≡ InodeRead.Got i → q ≡ searchOf v id 9 → Begins b (searchOf v id 9) t (scanOf b (searchOf v id 9) 0)
         → x ≡ run room (headTrace b v i (runAt b (searchOf v (i .id) 9) t (t .from))) o
-        → run room (entryForms (nodeForm (viewOf b v) (levels - 1)) (map (entryShown (v .reader) b) (readable (entryAt (q .keys .reader) b) (runAt b q s n)))) y
-        ≡ run room (entryForms (nodeForm (viewOf b v) (levels - 1)) (map (entryShown (v .reader) b) (readable (entryAt (q .keys .reader) b) (runAt b q t (t .from))))) x
-        → readable (entryAt (q .keys .reader) b) (runAt b q s n) ≡ [] → z ≡ puts room (ascii ")\n" []) y → z ≡ run room (nodeForm (viewOf b v) levels id) o
+        → run room (entryForms (nodeForm (viewOf b v) (levels - 1)) (map (entryShown (v .reader) b) (readable (entryAt (q .keys .hashed) (q .keys .reader) b) (runAt b q s n)))) y
+        ≡ run room (entryForms (nodeForm (viewOf b v) (levels - 1)) (map (entryShown (v .reader) b) (readable (entryAt (q .keys .hashed) (q .keys .reader) b) (runAt b q t (t .from))))) x
+        → readable (entryAt (q .keys .hashed) (q .keys .reader) b) (runAt b q s n) ≡ [] → z ≡ puts room (ascii ")\n" []) y → z ≡ run room (nodeForm (viewOf b v) levels id) o
     unfolding entryForms close run puts
     node-whole i x y q t s n f e g head inv over last =
         let m : levels ≡ suc (levels - 1) = omega arith in
         let u : inodeOf b v id 0 .answer ≡ got i = read-as (InodeRead.Got i) f in
-        let all : readable (entryAt (q .keys .reader) b) (runAt b q t (t .from)) ≡ readable (entryAt (v .reader) b) (scanOf b (searchOf v id 9) 0) = ap (λ (a : Search). readable (entryAt (a .keys .reader) b) (runAt b a t (t .from))) e ∙ ap (readable (entryAt (v .reader) b)) (g .run) in
-        let there : y ≡ run room (entryForms (nodeForm (viewOf b v) (levels - 1)) (map (entryShown (v .reader) b) (readable (entryAt (v .reader) b) (scanOf b (searchOf v id 9) 0)))) x
+        let all : readable (entryAt (q .keys .hashed) (q .keys .reader) b) (runAt b q t (t .from)) ≡ readable (entryAt (hashedKeys v) (v .reader) b) (scanOf b (searchOf v id 9) 0) = ap (λ (a : Search). readable (entryAt (a .keys .hashed) (a .keys .reader) b) (runAt b a t (t .from))) e ∙ ap (readable (entryAt (hashedKeys v) (v .reader) b)) (g .run) in
+        let there : y ≡ run room (entryForms (nodeForm (viewOf b v) (levels - 1)) (map (entryShown (v .reader) b) (readable (entryAt (hashedKeys v) (v .reader) b) (scanOf b (searchOf v id 9) 0)))) x
         = ap (λ (es : List Entry). run room (entryForms (nodeForm (viewOf b v) (levels - 1)) (map (entryShown (v .reader) b) es)) y) (sym over) ∙ inv
         ∙ ap (λ (es : List Entry). run room (entryForms (nodeForm (viewOf b v) (levels - 1)) (map (entryShown (v .reader) b) es)) x) all in
-        last ∙ ap (run room (says (close []))) (there ∙ ap (run room (entryForms (nodeForm (viewOf b v) (levels - 1)) (map (entryShown (v .reader) b) (readable (entryAt (v .reader) b) (scanOf b (searchOf v id 9) 0)))))
+        last ∙ ap (run room (says (close []))) (there ∙ ap (run room (entryForms (nodeForm (viewOf b v) (levels - 1)) (map (entryShown (v .reader) b) (readable (entryAt (hashedKeys v) (v .reader) b) (scanOf b (searchOf v id 9) 0)))))
         (head ∙ ap (λ (a : Run). run room (headTrace b v i a) o) (begun b v id i u t g)))
         ∙ sym (node-run b v id i u room (levels - 1) o)
         ∙ ap (λ (a : ℕ). run room (nodeForm (viewOf b v) a id) o) (sym m)
 
 -- the turns of the loop over the entries
-module _ (room : ℕ) (form : ℕ → Trace) (b : List ℕ) (v : Volume) (q : Search) (s : Step) (i : ℕ) (o w : Output) (inv : run room (entryForms form (map (entryShown (v .reader) b) (readable (entryAt (q .keys .reader) b) (runAt b q s i)))) o ≡ w)
-    (x : Seen Entry) (t : x ≡ seenIn (entryAt (q .keys .reader) b) (inStep b q (s .reached) i)) where
+module _ (room : ℕ) (form : ℕ → Trace) (b : List ℕ) (v : Volume) (q : Search) (s : Step) (i : ℕ) (o w : Output) (inv : run room (entryForms form (map (entryShown (v .reader) b) (readable (entryAt (q .keys .hashed) (q .keys .reader) b) (runAt b q s i)))) o ≡ w)
+    (x : Seen Entry) (t : x ≡ seenIn (entryAt (q .keys .hashed) (q .keys .reader) b) (inStep b q (s .reached) i)) where
   one-more : (e : Entry) (es : List Entry) → run room (entryForms form (map (entryShown (v .reader) b) (e ∷ es))) o ≡ run room (entryForms form (map (entryShown (v .reader) b) es)) (run room (entryForm form (entryShown (v .reader) b e)) o)
   unfolding entryForms entryForm
   one-more e es =
       run-then room _ _ o ∙ run-then room _ _ _ ∙ run-then room _ _ _
       ∙ ap (run room (entryForms form (map (entryShown (v .reader) b) es))) (sym (run-then room _ _ o ∙ run-then room _ _ _))
 
-  pub entries-passed : (n : Step) → x ≡ passed → Begins b q n (left b q (s .path) (s .level) (s .nodes)) → run room (entryForms form (map (entryShown (v .reader) b) (readable (entryAt (q .keys .reader) b) (runAt b q n (n .from))))) o ≡ w
-  entries-passed n e h = rw (readable-passed (entryAt (q .keys .reader) b) b q s i x t n e h) inv
+  pub entries-passed : (n : Step) → x ≡ passed → Begins b q n (left b q (s .path) (s .level) (s .nodes)) → run room (entryForms form (map (entryShown (v .reader) b) (readable (entryAt (q .keys .hashed) (q .keys .reader) b) (runAt b q n (n .from))))) o ≡ w
+  entries-passed n e h = rw (readable-passed (entryAt (q .keys .hashed) (q .keys .reader) b) b q s i x t n e h) inv
 
   pub entries-next : (e : Entry) (c : ℕ) (p : Output) → x ≡ element e c → p ≡ run room (entryForm form (entryShown (v .reader) b e)) o
-      → run room (entryForms form (map (entryShown (v .reader) b) (readable (entryAt (q .keys .reader) b) (runAt b q s c)))) p ≡ w
+      → run room (entryForms form (map (entryShown (v .reader) b) (readable (entryAt (q .keys .hashed) (q .keys .reader) b) (runAt b q s c)))) p ≡ w
   entries-next e c p g k =
-      ap (run room (entryForms form (map (entryShown (v .reader) b) (readable (entryAt (q .keys .reader) b) (runAt b q s c))))) k ∙ sym (one-more e (readable (entryAt (q .keys .reader) b) (runAt b q s c)))
-      ∙ ap (λ (es : List Entry). run room (entryForms form (map (entryShown (v .reader) b) es)) o) (sym (readable-at (entryAt (q .keys .reader) b) b q s i x t e c g)) ∙ inv
+      ap (run room (entryForms form (map (entryShown (v .reader) b) (readable (entryAt (q .keys .hashed) (q .keys .reader) b) (runAt b q s c))))) k ∙ sym (one-more e (readable (entryAt (q .keys .hashed) (q .keys .reader) b) (runAt b q s c)))
+      ∙ ap (λ (es : List Entry). run room (entryForms form (map (entryShown (v .reader) b) es)) o) (sym (readable-at (entryAt (q .keys .hashed) (q .keys .reader) b) b q s i x t e c g)) ∙ inv
 
 -- an entry's form
 module _ (room : ℕ) (form : ℕ → Trace) (b : List ℕ) (v : Volume) (e : Entry) (o p : Output) (h : p ≡ puts room (entryLine (entryShown (v .reader) b e) []) o) where

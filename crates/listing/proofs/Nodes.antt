@@ -16,6 +16,7 @@ use Rattle.cursor.specs.Way.{Leads}
 use Rattle.cursor.specs.declared.steps.Step.{Step}
 use Rattle.cursor.specs.declared.way.Way.{Way}
 use Rattle.volume.specs.declared.Volume.{Volume}
+use Rattle.volume.specs.Rule.{hashedKeys}
 use Rattle.records.specs.Directory.{entryAt}
 use Rattle.records.specs.declared.directory.Entry.{Entry}
 use Rattle.records.specs.declared.attribute.Attribute.{Attribute}
@@ -123,15 +124,15 @@ module _ (b : List ℕ) (v : Volume) (id : ℕ) (i : Inode) (h : inodeOf b v id 
         ∙ all-run l es o ∙ ap (λ (x : Output). run room (says (close [])) (run room (forms es) x)) p
         ∙ ap (λ (x : List Entry). way (body (got l) (got es)) (forms x) o) (sym q)
 
-    read-entries : (ys : List Entry) → entriesOf b v (i .id) 0 .answer ≡ got ys → readable (entryAt (v .reader) b) (scanOf b (searchOf v id 9) 0) ≡ ys
+    read-entries : (ys : List Entry) → entriesOf b v (i .id) 0 .answer ≡ got ys → readable (entryAt (hashedKeys v) (v .reader) b) (scanOf b (searchOf v id 9) 0) ≡ ys
     unfolding entriesOf
-    read-entries ys e = listed (entryAt (v .reader) b) (scanOf b (searchOf v id 9) 0) ys (sym (ap (λ (n : ℕ). entriesOf b v n 0 .answer) same-id) ∙ e)
+    read-entries ys e = listed (entryAt (hashedKeys v) (v .reader) b) (scanOf b (searchOf v id 9) 0) ys (sym (ap (λ (n : ℕ). entriesOf b v n 0 .answer) same-id) ∙ e)
 
-    pub node-run : (o : Output) → run room (nodeForm (viewOf b v) (suc d) id) o ≡ way (headTrace b v i (scanOf b (searchOf v (i .id) 9) 0)) (forms (readable (entryAt (v .reader) b) (scanOf b (searchOf v id 9) 0))) o
+    pub node-run : (o : Output) → run room (nodeForm (viewOf b v) (suc d) id) o ≡ way (headTrace b v i (scanOf b (searchOf v (i .id) 9) 0)) (forms (readable (entryAt (hashedKeys v) (v .reader) b) (scanOf b (searchOf v id 9) 0))) o
     unfolding headTrace entriesOf
     node-run o =
         ap (λ (t : Trace). run room t o) node-is
         ∙ run-then room (says (nodeLine (inodeShown (v .reader) b i) [])) _ o
         ∙ viewed-run (attributesOf b v (i .id) 0 .answer) (entriesOf b v (i .id) 0 .answer) _ _ read-entries
-        ∙ ap (λ (x : Output). run room (says (close [])) (run room (forms (readable (entryAt (v .reader) b) (scanOf b (searchOf v id 9) 0))) x))
+        ∙ ap (λ (x : Output). run room (says (close [])) (run room (forms (readable (entryAt (hashedKeys v) (v .reader) b) (scanOf b (searchOf v id 9) 0))) x))
         (sym (run-then room (says (nodeLine (inodeShown (v .reader) b i) [])) (body (attributesOf b v (i .id) 0 .answer) (entriesOf b v (i .id) 0 .answer)) o))

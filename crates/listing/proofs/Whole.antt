@@ -22,8 +22,8 @@ use Rattle.volume.specs.declared.Volume.{Volume}
 use Rattle.volume.specs.declared.VolumeOpened.{VolumeOpened}
 use Rattle.volume.specs.declared.VolumeOpening.{VolumeOpening}
 use Rattle.label.specs.Label.{labelOf}
-use Rattle.paths.specs.Names.{ruleOf}
-use Rattle.paths.specs.declared.compare.NameRule.{NameRule}
+use Rattle.volume.specs.Rule.{ruleOf}
+use Rattle.volume.specs.declared.rule.NameRule.{NameRule}
 use Rattle.extents.proofs.Verdicts.{le-or-gt}
 use Rattle.lines.specs.Lines.{volumeLine, close}
 use Rattle.calls.specs.Filled.{Filled, filledAt}

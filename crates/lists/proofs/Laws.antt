@@ -1,6 +1,7 @@
 -- An element of a list by its place, as the loops find it, and an inode as the first record of its id.
 use Prim.Native.Nat.{ℕ, zero, suc, _-_, _≤_, _<_}
 use mathlib.Core.Path.{_≡_, refl, sym, ap, _∙_}
+use mathlib.Core.Bool.{Bool}
 use mathlib.Core.List.{List, [], _∷_}
 use mathlib.Core.Option.{Option, none, some}
 use native.Mathlib.Omega.{arith}
@@ -15,7 +16,9 @@ use Rattle.btree.specs.declared.entries.Place.{Place}
 use Rattle.btree.specs.declared.entries.Found.{Found}
 use Rattle.btree.specs.declared.entries.Scanned.{Scanned}
 use Rattle.cursor.specs.Left.{runAt, inStep}
+use Rattle.volume.specs.Rule.{hashedKeys}
 use Rattle.volume.specs.declared.Volume.{Volume}
+use Rattle.lookup.specs.declared.map.Resolve.the-variants.{Mapped}
 use Rattle.inode_record.specs.Inode.{inodeTold, inodeAt}
 use Rattle.inode_record.specs.declared.inode.InodeRead.{InodeRead}
 use Rattle.cursor.specs.declared.steps.Step.{Step}
@@ -24,6 +27,11 @@ use Rattle.lists.specs.Inner.{keep, kept}
 use Rattle.lists.specs.Seen.{Seen, over, element, seenIn}
 use Rattle.records.proofs.Laws as record-laws
 use Rattle.lists.proofs.Reading.{reading, list-start, list-over, list-at}
+
+-- the search of a volume's records, with the form of its directory keys
+pub search-is : (v : Volume) (id kind : ℕ) (d : Bool) → d ≡ hashedKeys v
+    → record { keys = record { reader = v .reader; info = v .info; id = id; kind = kind; hashed = d }; root = v .root; resolve = Mapped (v .map) } ≡ searchOf v id kind
+search-is v id kind d e = rw e
 
 abbrev seek : {A : Type 0} → Option A → ℕ → List A → Option A
 seek none left xs = elementAt left xs

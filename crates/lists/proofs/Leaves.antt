@@ -36,9 +36,9 @@ module _ {A : Type 0} (whole : Place → Answer A) (f : List ℕ → Place → A
   read-leaf x s z e t h = rw e (rw t at h ∙ read-by (inKeyed b k m i) (λ p a g. in-block (blockOf (k .reader) b (m .block)) m (k .info) (k .id) (k .kind) p (m .nkeys - i) i a g))
 
 module _ (b : List ℕ) (k : Keys) (m : Node) (i : ℕ) (x : Reached) (s : List ℕ) (e : x ≡ reached.Leaf m) (t : s ≡ blockOf (k .reader) b (m .block)) where
-  pub entry-leaf : (z : Seen Entry) → z ≡ seenIn (entryOf s) (inLeaf s m (k .info) (k .id) (k .kind) (m .nkeys - i) i) → z ≡ seenIn (entryAt (k .reader) b) (inReached b k x i)
+  pub entry-leaf : (z : Seen Entry) → z ≡ seenIn (entryOf (k .hashed) s) (inLeaf s m (k .info) (k .id) (k .kind) (m .nkeys - i) i) → z ≡ seenIn (entryAt (k .hashed) (k .reader) b) (inReached b k x i)
   unfolding entryAt
-  entry-leaf z h = read-leaf (entryAt (k .reader) b) entryOf b k m i (λ p. refl) x s z e t h
+  entry-leaf z h = read-leaf (entryAt (k .hashed) (k .reader) b) (entryOf (k .hashed)) b k m i (λ p. refl) x s z e t h
 
   pub attribute-leaf : (z : Seen Attribute) → z ≡ seenIn (attributeOf s) (inLeaf s m (k .info) (k .id) (k .kind) (m .nkeys - i) i) → z ≡ seenIn (attributeAt (k .reader) b) (inReached b k x i)
   unfolding attributeAt

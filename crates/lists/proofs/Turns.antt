@@ -18,6 +18,7 @@ use Rattle.cursor.specs.declared.steps.Step.{Step}
 use Rattle.volume.specs.declared.Volume.{Volume}
 use Rattle.inode_record.specs.Inode.{compressed}
 use Rattle.inode_record.specs.declared.inode.Inode.{Inode}
+use Rattle.volume.specs.Rule.{hashedKeys}
 use Rattle.records.specs.Directory.{entryTold, entryAt}
 use Rattle.records.specs.Attribute.{attributeTold, attributeAt}
 use Rattle.records.specs.Extent.{extentTold, extentAt}
@@ -90,11 +91,11 @@ module _ (s : EntryAt) where
   entry-none w q = rw q
 
 pub entry-done : (b : List ℕ) (v : Volume) (id place n : ℕ) (q : Search) (t : Step) (x : EntryAt) (r : EntryFound) → q ≡ searchOf v id 9 → r ≡ record { entry = x; nodes = n }
-    → after n (entryPlaced x) ≡ placed place (listOf (entryAt (q .keys .reader) b) (runAt b q t (t .from))) → entryFound r ≡ placed place (listOf (entryAt (v .reader) b) (runAt b (searchOf v id 9) t (t .from)))
+    → after n (entryPlaced x) ≡ placed place (listOf (entryAt (q .keys .hashed) (q .keys .reader) b) (runAt b q t (t .from))) → entryFound r ≡ placed place (listOf (entryAt (hashedKeys v) (v .reader) b) (runAt b (searchOf v id 9) t (t .from)))
 entry-done b v id place n q t x r e h g = rw h (rw e at g)
 
 pub entry-whole : (b : List ℕ) (v : Volume) (id place n : ℕ) (q : Search) (t : Step) (r : EntryFound) → q ≡ searchOf v id 9 → Begins b q t (scanOf b q n)
-    → entryFound r ≡ placed place (listOf (entryAt (v .reader) b) (runAt b (searchOf v id 9) t (t .from))) → entryFound r ≡ placed place (entriesOf b v id n)
+    → entryFound r ≡ placed place (listOf (entryAt (hashedKeys v) (v .reader) b) (runAt b (searchOf v id 9) t (t .from))) → entryFound r ≡ placed place (entriesOf b v id n)
 unfolding entriesOf
 entry-whole b v id place n q t r e h g = rw (rw e at (h .run)) at g
 

@@ -12,6 +12,7 @@ use Rattle.btree.specs.Scan.{Run, more, end, refused, scanOf, nth}
 use Rattle.btree.specs.declared.entries.Search.{Search}
 use Rattle.btree.specs.declared.entries.Place.{Place}
 use Rattle.volume.specs.declared.Volume.{Volume}
+use Rattle.volume.specs.Rule.{hashedKeys}
 use Rattle.records.specs.Directory.{entryAt}
 use Rattle.records.specs.Attribute.{attributeAt}
 use Rattle.records.specs.Extent.{extentAt}
@@ -23,7 +24,7 @@ use Rattle.inode_record.specs.declared.inode.Inode.{Inode}
 
 -- the records of an id and a kind in a volume's tree
 abbrev pub searchOf : Volume → ℕ → ℕ → Search
-searchOf v id kind = record { keys = record { reader = v .reader; info = v .info; id = id; kind = kind }; root = v .root; resolve = Mapped (v .map) }
+searchOf v id kind = record { keys = record { reader = v .reader; info = v .info; id = id; kind = kind; hashed = hashedKeys v }; root = v .root; resolve = Mapped (v .map) }
 
 -- all records of a run, each read by f: record after record, and the first fault counts
 unfoldable pub listOf : {A : Type 0} → (Place → Answer A) → Run → Counted (List A)
@@ -33,7 +34,7 @@ listOf f (refused e s) = after s (no e)
 
 -- APFS_TYPE_DIR_REC is 9, APFS_TYPE_XATTR 4, APFS_TYPE_FILE_EXTENT 8, APFS_TYPE_INODE 3; s nodes have been gone through before
 unfoldable pub entriesOf : List ℕ → Volume → ℕ → ℕ → Counted (List Entry)
-entriesOf b v id s = listOf (entryAt (v .reader) b) (scanOf b (searchOf v id 9) s)
+entriesOf b v id s = listOf (entryAt (hashedKeys v) (v .reader) b) (scanOf b (searchOf v id 9) s)
 
 unfoldable pub attributesOf : List ℕ → Volume → ℕ → ℕ → Counted (List Attribute)
 attributesOf b v id s = listOf (attributeAt (v .reader) b) (scanOf b (searchOf v id 4) s)

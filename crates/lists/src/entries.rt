@@ -10,6 +10,7 @@ use records::Entry;
 use volume::Volume;
 ghost use mathlib.Core.Path.{_≡_};
 ghost use Rattle.cursor.specs.Left.{runAt};
+ghost use Rattle.volume.specs.Rule.{hashedKeys};
 ghost use Rattle.records.specs.Directory.{entryAt};
 ghost use Rattle.lists.specs.Told.{entryPlaced, entryFound};
 ghost use Rattle.lists.specs.Lists.{searchOf, listOf, placed, entriesOf};
@@ -50,7 +51,7 @@ fn kept_with(so_far: EntryAt, x: Entry) -> EntryAt
 
 // The whole list from a step on is read, whichever place is asked.
 pub fn entry_from(image: &[u8], v: Volume, id: u64, place: u64, start: Step) -> EntryFound
-    ensures { λ r. ⌜ entryFound r ≡ placed place (listOf (entryAt (v .reader) (now (image .entry))) (runAt (now (image .entry)) (searchOf v id 9) start (start .from))) ⌝ }
+    ensures { λ r. ⌜ entryFound r ≡ placed place (listOf (entryAt (hashedKeys v) (v .reader) (now (image .entry))) (runAt (now (image .entry)) (searchOf v id 9) start (start .from))) ⌝ }
 {
     let q = search(v, id, 9);
     let keys = q.keys;

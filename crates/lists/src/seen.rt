@@ -44,10 +44,10 @@ pub enum ExtentIn {
 
 // The next entry of a leaf m whose block is b.
 fn entry_of(b: &[u8], k: Keys, m: Node, from: u32) -> EntryIn
-    ensures { λ r. ⌜ entrySeen r ≡ seenIn (entryOf (now (b .entry))) (inLeaf (now (b .entry)) m (k .info) (k .id) (k .kind) (m .nkeys - from) from) ⌝ }
+    ensures { λ r. ⌜ entrySeen r ≡ seenIn (entryOf (k .hashed) (now (b .entry))) (inLeaf (now (b .entry)) m (k .info) (k .id) (k .kind) (m .nkeys - from) from) ⌝ }
 {
     match in_leaf(b, m, k.info, k.id, k.kind, from) {
-        InLeaf::At(p, after) => match records::entry_of(b, p) {
+        InLeaf::At(p, after) => match records::entry_of(b, p, k.hashed) {
             EntryRead::Got(x) => EntryIn::At(x, after),
             EntryRead::No(e) => EntryIn::No(e),
         },
@@ -58,7 +58,7 @@ fn entry_of(b: &[u8], k: Keys, m: Node, from: u32) -> EntryIn
 }
 
 pub fn entry_in(image: &[u8], k: Keys, reached: Reached, from: u32) -> EntryIn
-    ensures { λ r. ⌜ entrySeen r ≡ seenIn (entryAt (k .reader) (now (image .entry))) (inReached (now (image .entry)) k reached from) ⌝ }
+    ensures { λ r. ⌜ entrySeen r ≡ seenIn (entryAt (k .hashed) (k .reader) (now (image .entry))) (inReached (now (image .entry)) k reached from) ⌝ }
 {
     match reached {
         Reached::Leaf(m) => entry_of(k.reader.block(image, m.block), k, m, from),

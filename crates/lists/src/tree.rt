@@ -3,6 +3,7 @@ use btree::Keys;
 use btree::Search;
 use lookup::Resolve;
 use volume::Volume;
+use volume::hashed_keys;
 ghost use mathlib.Core.Path.{_≡_};
 ghost use Prim.Native.Nat.{_-_};
 ghost use Rattle.lists.specs.Lists.{searchOf};
@@ -19,6 +20,7 @@ pub fn search(v: Volume, id: u64, kind: u8) -> Search
         info: info,
         id: id,
         kind: kind,
+        hashed: hashed_keys(v),
     };
     Search {
         keys: keys,

@@ -13,10 +13,11 @@ use Rattle.records.specs.declared.directory.Entry.{Entry}
 use Rattle.inode_record.specs.declared.inode.Inode.{Inode}
 use Rattle.lists.specs.Lists.{entriesOf, inodeOf}
 use Rattle.paths.specs.Parts.{partsOf}
-use Rattle.paths.specs.Names.{ruleOf, insensitive, wide, sameKeys}
+use Rattle.volume.specs.Rule.{ruleOf, insensitive}
+use Rattle.paths.specs.Names.{wide, sameKeys}
 use Rattle.paths.specs.Find.{exactMatch, keyMatch, findEntry}
 use Rattle.paths.specs.Lookup.{nameRead, entryIn, partInode, walkParts, lookupPath}
-use Rattle.paths.specs.declared.compare.NameRule.{NameRule}
+use Rattle.volume.specs.declared.rule.NameRule.{NameRule}
 
 -- what is found goes by the names alone
 module _ {A B : Type 0} (g : A → B) (name : A → List ℕ) (label : B → List ℕ) (same : (e : A) → label (g e) ≡ name e) (rule : NameRule) (p : List ℕ) where

@@ -11,10 +11,11 @@ use Rattle.error.proofs.Laws.{picked, not-picked}
 use Rattle.utf8.specs.Text.{lossy, sameBytes}
 use Rattle.utf8.proofs.Equal.{same-equal, equal-same, unlike}
 use Rattle.records.specs.declared.directory.Entry.{Entry}
-use Rattle.paths.specs.Names.{insensitive, wide, sameKeys}
+use Rattle.volume.specs.Rule.{insensitive}
+use Rattle.paths.specs.Names.{wide, sameKeys}
 use Rattle.paths.specs.Find.{exactMatch, keyMatch, findEntry}
 use Rattle.paths.specs.Inner.{noneYet, unlessExact, byKey, weighed, settled}
-use Rattle.paths.specs.declared.compare.NameRule.{NameRule}
+use Rattle.volume.specs.declared.rule.NameRule.{NameRule}
 use Rattle.paths.specs.declared.choose.Choice.{Choice}
 use Rattle.paths.specs.declared.choose.Choice.the-variants.{Open, Exact, Keyed, No}
 use Rattle.paths.proofs.Keys.{wide-reading, ascii-reading}

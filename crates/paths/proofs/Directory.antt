@@ -19,11 +19,11 @@ use Rattle.lists.specs.Seen.{Seen, over, element, seenIn}
 use Rattle.lists.proofs.Reading.{reading, less-at, less-passed, list-start, list-over, list-no, list-at, list-passed}
 use Rattle.lists.proofs.Turns as list-turns
 use Rattle.utf8.specs.Text.{lossy}
-use Rattle.paths.specs.Names.{ruleOf}
+use Rattle.volume.specs.Rule.{ruleOf}
 use Rattle.paths.specs.Find.{findEntry}
 use Rattle.paths.specs.Inner.{noneYet, weighed, settled}
 use Rattle.paths.specs.Lookup.{entryChosen, nameRead, entryIn}
-use Rattle.paths.specs.declared.compare.NameRule.{NameRule}
+use Rattle.volume.specs.declared.rule.NameRule.{NameRule}
 use Rattle.paths.specs.declared.choose.Choice.{Choice}
 use Rattle.paths.specs.declared.walk.EntryChosen.{EntryChosen}
 use Rattle.paths.proofs.Chosen.{chosen, chosen-start, chosen-next, chosen-end}
@@ -58,7 +58,7 @@ module _ (rule : NameRule) (rd : Reader) (b : List ℕ) (p : List ℕ) where
           list-at g b q s i x t (choosing c) whole inv (choosing z) e a h (λ es. rw m (chosen-next rule (nameRead rd b) p c e es))
 
 pub entries-done : (b : List ℕ) (v : Volume) (id s n : ℕ) (p : List ℕ) (rule : NameRule) (q : Search) (x : EntryRead) (r : EntryChosen) → q ≡ searchOf v id 9 → rule ≡ ruleOf v → r ≡ record { entry = x; nodes = n }
-    → after n (entryTold x) ≡ foundIn rule (v .reader) b p (entryAt (q .keys .reader) b) (scanOf b q s) → entryChosen r ≡ entryIn b v id p s
+    → after n (entryTold x) ≡ foundIn rule (v .reader) b p (entryAt (q .keys .hashed) (q .keys .reader) b) (scanOf b q s) → entryChosen r ≡ entryIn b v id p s
 unfolding entryIn entriesOf foundIn
 entries-done b v id s n p rule q x r e f h g = rw h (rw (e, f) at g)
 

@@ -12,7 +12,7 @@ use Rattle.paths.specs.Parts.{isSeparator, splitOf, partsOf}
 use Rattle.paths.specs.Inner.{leading, nextPart}
 use Rattle.paths.specs.Names.{wide, folded, foldedKey, sameKeys}
 use Rattle.paths.specs.Find.{exactMatch, keyMatch, findEntry}
-use Rattle.paths.specs.declared.compare.NameRule.{NameRule}
+use Rattle.volume.specs.declared.rule.NameRule.{NameRule}
 
 -- document 01, "Marked lines of the table": "paths "" and "//" are the root"
 pub parts-slashes : partsOf (47 ∷ 47 ∷ []) ≡ []

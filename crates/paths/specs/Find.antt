@@ -6,8 +6,9 @@ use mathlib.Core.List.{List, [], _∷_}
 use Rattle.error.specs.Answer.{Answer, got, no, pick}
 use Rattle.error.specs.declared.Refusal.the-variants.{NotFound, CharacterNotCovered}
 use Rattle.utf8.specs.Text.{sameBytes}
-use Rattle.paths.specs.Names.{insensitive, wide, sameKeys}
-use Rattle.paths.specs.declared.compare.NameRule.{NameRule}
+use Rattle.volume.specs.Rule.{insensitive}
+use Rattle.paths.specs.Names.{wide, sameKeys}
+use Rattle.volume.specs.declared.rule.NameRule.{NameRule}
 
 -- "the first exactly equal name is taken, else" other
 unfoldable pub exactMatch : {A : Type 0} → (A → List ℕ) → List ℕ → List A → Answer A → Answer A

@@ -11,8 +11,9 @@ use Rattle.bytes.specs.declared.Span.{Span}
 use Rattle.utf8.specs.Text.{sameBytes}
 use Rattle.records.specs.declared.directory.Entry.{Entry}
 use Rattle.paths.specs.Parts.{isSeparator}
-use Rattle.paths.specs.Names.{insensitive, wide, sameKeys}
-use Rattle.paths.specs.declared.compare.NameRule.{NameRule}
+use Rattle.volume.specs.Rule.{insensitive}
+use Rattle.paths.specs.Names.{wide, sameKeys}
+use Rattle.volume.specs.declared.rule.NameRule.{NameRule}
 use Rattle.paths.specs.declared.choose.Choice.{Choice}
 use Rattle.paths.specs.declared.choose.Choice.the-variants.{Open, Exact, Keyed, No}
 

@@ -12,7 +12,7 @@ use Rattle.records.specs.declared.directory.Entry.{Entry}
 use Rattle.inode_record.specs.declared.inode.Inode.{Inode}
 use Rattle.lists.specs.Lists.{entriesOf, inodeOf, rootOf}
 use Rattle.paths.specs.Parts.{partsOf}
-use Rattle.paths.specs.Names.{ruleOf}
+use Rattle.volume.specs.Rule.{ruleOf}
 use Rattle.paths.specs.Find.{findEntry}
 use Rattle.paths.specs.declared.walk.EntryChosen.{EntryChosen}
 

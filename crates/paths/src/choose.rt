@@ -1,12 +1,12 @@
 // The entry of a directory that a part of a path names, chosen entry after entry.
-use crate::compare::NameRule;
-use crate::compare::insensitive;
 use crate::compare::is_wide;
 use crate::compare::same_key;
 use error::Refusal;
 use records::Entry;
 use records::EntryRead;
 use utf8::reads_as;
+use volume::NameRule;
+use volume::insensitive;
 ghost use mathlib.Core.Path.{_≡_};
 ghost use Rattle.records.specs.Directory.{entryTold};
 ghost use Rattle.utf8.specs.Text.{lossy};

@@ -1,33 +1,8 @@
-// How a volume compares names (fs.rs, `NameRule`).
+// Names compared by their keys (fs.rs, `NameRule::key`).
 use name_hash::lower_case;
-use volume::Volume;
+use volume::NameRule;
 ghost use mathlib.Core.Path.{_≡_};
-ghost use Rattle.paths.specs.Names.{ruleOf, insensitive, wide, folded, sameKeys};
-
-pub struct NameRule {
-    pub case_insensitive: bool,
-    pub normalization_insensitive: bool,
-}
-
-pub fn name_rule(v: Volume) -> NameRule
-    ensures { λ r. ⌜ r ≡ ruleOf v ⌝ }
-{
-    let sb = v.sb;
-    NameRule {
-        case_insensitive: sb.incompat % 2 == 1,
-        normalization_insensitive: sb.incompat / 8 % 2 == 1,
-    }
-}
-
-// Whether names with other bytes may be the same.
-pub fn insensitive(rule: NameRule) -> bool
-    ensures { λ r. ⌜ r ≡ insensitive rule ⌝ }
-{
-    if rule.case_insensitive {
-        return true;
-    }
-    rule.normalization_insensitive
-}
+ghost use Rattle.paths.specs.Names.{wide, folded, sameKeys};
 
 // Whether a name has a character above U+007F.
 pub fn is_wide(b: &[u8]) -> bool

@@ -4,6 +4,4 @@ mod compare;
 mod split;
 mod walk;
 
-pub use compare::NameRule;
-pub use compare::name_rule;
 pub use walk::lookup_path;

@@ -2,7 +2,6 @@
 use crate::choose::none_yet;
 use crate::choose::settle;
 use crate::choose::weigh;
-use crate::compare::name_rule;
 use crate::split::next_part;
 use crate::split::part_after;
 use bytes::part;
@@ -20,6 +19,7 @@ use records::EntryRead;
 use records::entry_name;
 use utf8::is_utf8;
 use volume::Volume;
+use volume::name_rule;
 ghost use mathlib.Core.Path.{_≡_};
 ghost use Rattle.lists.specs.Told.{inodeFound};
 ghost use Rattle.paths.specs.Lookup.{entryChosen, entryIn, partInode, lookupPath};

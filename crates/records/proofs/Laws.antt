@@ -1,6 +1,7 @@
 -- How the reading of a record goes on from its steps.
 use Prim.Native.Nat.{ℕ}
 use mathlib.Core.Path.{_≡_, sym, _∙_}
+use mathlib.Core.Bool.{Bool, true, false}
 use mathlib.Core.List.{List}
 use Rattle.error.specs.Answer.{Answer, got, no, _>>=_, ifEq}
 use Rattle.error.proofs.Laws.{same, other}
@@ -39,8 +40,8 @@ module _ (s u : List ℕ) (e : s ≡ u) where
   unfolding nameOf
   entry-number name n h = rw (h, e)
 
-  pub name-in : (z : Answer Span) → z ≡ nameIn s → z ≡ nameIn u
-  name-in z h = rw e at h
+  pub name-in : (hashed : Bool) (z : Answer Span) → z ≡ nameIn hashed s → z ≡ nameIn hashed u
+  name-in hashed z h = rw e at h
 
   pub stream-in : (z : Answer AttributeData) → z ≡ streamIn s → z ≡ streamIn u
   stream-in z h = rw e at h

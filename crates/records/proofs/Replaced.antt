@@ -7,7 +7,7 @@ use native.Mathlib.Omega.{arith}
 use lib.ListN.{length}
 use Rattle.error.specs.Answer.{Answer, got}
 use Rattle.error.specs.declared.Refusal.the-variants.{Corrupt}
-use Rattle.error.proofs.Laws.{bound, le-cases}
+use Rattle.error.proofs.Laws.{got-is, bound, le-cases}
 use Rattle.bytes.specs.Number.{numberAt}
 use Rattle.bytes.specs.Part.{partOf, spanAt, upToZero}
 use Rattle.bytes.specs.declared.Span.{Span}
@@ -21,21 +21,18 @@ use Rattle.records.specs.Attribute.{dataIn, withName, attributeValue, at
 use Rattle.records.specs.declared.attribute.Attribute.{Attribute}
 use Rattle.records.specs.declared.attribute.AttributeData.{AttributeData}
 
-got-same : {A : Type 0} (x y : A) → got x ≡ got y → x ≡ y
-got-same x y e = cc
-
 -- where a part lies that is there
 span-is : (size off len : ℕ) (s : Span) → spanAt Corrupt size off len ≡ got s → s ≡ record { start = off; len = len }
 unfolding spanAt
 span-is size off len s =
-    le-cases (λ (a : Answer Span). a ≡ got s → s ≡ record { start = off; len = len }) (λ h e. sym (got-same _ s e)) (λ h e. absurd (let z : _≡_ {A = ℕ} 0 1 = cc in omega arith))
+    le-cases (λ (a : Answer Span). a ≡ got s → s ≡ record { start = off; len = len }) (λ h e. sym (got-is _ s e)) (λ h e. absurd (let z : _≡_ {A = ℕ} 0 1 = cc in omega arith))
 
 module _ (p : Place) (key : List ℕ) (len flags : ℕ) (d : AttributeData) (x : Attribute) (h : withName p key len flags d ≡ got x) where
   named : (s : Span) × ((spanAt Corrupt (length key) 10 len ≡ got s) × (x .place ≡ p) × (x .name ≡ nameOf key s))
   unfolding withName
   named =
       let a = bound (spanAt Corrupt (length key) 10 len) _ x h in
-      let q = got-same _ x (a .1 .1) in
+      let q = got-is _ x (a .1 .1) in
       (a .0, (a .1 .0, sym (ap (λ (y : Attribute). y .place) q), sym (ap (λ (y : Attribute). y .name) q)))
 
 pub attribute-named : (r : Reader) (b : List ℕ) (p : Place) (x : Attribute) → attributeAt r b p ≡ got x

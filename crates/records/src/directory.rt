@@ -15,7 +15,7 @@ use obj::Reader;
 ghost use mathlib.Core.Path.{_≡_};
 ghost use Prim.Native.Nat.{_+_};
 ghost use Rattle.bytes.specs.Part.{sliced};
-ghost use Rattle.records.specs.Directory.{entryTold, nameIn, entryValue, entryOf, entryName, entryReading};
+ghost use Rattle.records.specs.Directory.{entryTold, hashedName, plainName, nameIn, entryValue, entryOf, entryName, entryReading};
 
 // The name is a part of the record's key.
 pub struct Entry {
@@ -38,31 +38,47 @@ fn plain_length(n: u16) -> u64
     10 + n as u64
 }
 
-// Where the name lies: the key's two forms are told apart by its length.
-fn name_in(key: &[u8]) -> Sliced
-    ensures { λ r. ⌜ sliced r ≡ nameIn (now (key .entry)) ⌝ }
+// The name of a key that holds a hash: the count of its bytes is in the low 10 bits.
+fn hashed_name(key: &[u8]) -> Sliced
+    ensures { λ r. ⌜ sliced r ≡ hashedName (now (key .entry)) ⌝ }
 {
-    let hashed = match u32_at(key, 8) {
+    let len = match u32_at(key, 8) {
         Number::Got(x) => x % 1024,
         Number::No(e) => return Sliced::No(e),
     };
-    if key.len() as u64 == 12 + hashed {
+    if key.len() as u64 == 12 + len {
         return Sliced::Got(Span {
             start: 12,
             len: key.len() - 12,
         });
     }
-    let plain = match u16_at(key, 8) {
+    Sliced::No(Refusal::Corrupt)
+}
+
+fn plain_name(key: &[u8]) -> Sliced
+    ensures { λ r. ⌜ sliced r ≡ plainName (now (key .entry)) ⌝ }
+{
+    let len = match u16_at(key, 8) {
         Number::Got(x) => x,
         Number::No(e) => return Sliced::No(e),
     };
-    if key.len() as u64 == plain_length(plain as u16) {
+    if key.len() as u64 == plain_length(len as u16) {
         return Sliced::Got(Span {
             start: 10,
             len: key.len() - 10,
         });
     }
     Sliced::No(Refusal::Corrupt)
+}
+
+// Where the name lies: which form the key has, its volume says.
+fn name_in(key: &[u8], hashed: bool) -> Sliced
+    ensures { λ r. ⌜ sliced r ≡ nameIn hashed (now (key .entry)) ⌝ }
+{
+    if hashed {
+        return hashed_name(key);
+    }
+    plain_name(key)
 }
 
 fn value_in(place: Place, name: Span, value: &[u8]) -> EntryRead
@@ -90,10 +106,10 @@ fn value_in(place: Place, name: Span, value: &[u8]) -> EntryRead
 }
 
 // The entry of a record in the block b.
-pub fn entry_of(b: &[u8], place: Place) -> EntryRead
-    ensures { λ r. ⌜ entryTold r ≡ entryOf (now (b .entry)) place ⌝ }
+pub fn entry_of(b: &[u8], place: Place, hashed: bool) -> EntryRead
+    ensures { λ r. ⌜ entryTold r ≡ entryOf hashed (now (b .entry)) place ⌝ }
 {
-    match name_in(part(b, place.key)) {
+    match name_in(part(b, place.key), hashed) {
         Sliced::Got(name) => value_in(place, name, part(b, place.value)),
         Sliced::No(e) => EntryRead::No(e),
     }

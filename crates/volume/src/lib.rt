@@ -1,4 +1,6 @@
 // An opened volume (fs.rs, `Volume::open`).
+mod rule;
+
 use arith::tick;
 use bytes::Number;
 use error::Refusal;
@@ -18,6 +20,10 @@ use nx::VolumeSuperblock;
 use nx::volume_superblock;
 use obj::Reader;
 use omap::Loading;
+pub use rule::NameRule;
+pub use rule::hashed_keys;
+pub use rule::insensitive;
+pub use rule::name_rule;
 ghost use mathlib.Core.Path.{_≡_};
 ghost use Rattle.volume.specs.Open.{openTold, volumeOpen, volumeOfImage};
 ghost use Rattle.volume.specs.Inner.{rootedOf, treeOf, throughMap, mapFirst, testedOf};

@@ -15,7 +15,7 @@ use Rattle.entry_lines.proofs.put_entries.Tie as tie
 
 abbrev Inv-loop : tie.InvT-loop
 Inv-loop out₀ room image id place q keys reader n₀ left₀ s₀ i₀ out n left s i =
-    (writes reader image room n left (readable (entryAt (q .keys .reader) image) (runAt image q s i)) out ≡ puts room (fitting room (linesOf reader image (drop place (readable (entryAt (q .keys .reader) image) (runAt image q s₀ i₀))))) (at out₀ 0))
+    (writes reader image room n left (readable (entryAt (q .keys .hashed) (q .keys .reader) image) (runAt image q s i)) out ≡ puts room (fitting room (linesOf reader image (drop place (readable (entryAt (q .keys .hashed) (q .keys .reader) image) (runAt image q s₀ i₀))))) (at out₀ 0))
     × (n ≤ room) × (length out ≡ length out₀)
 
 abbrev μ-loop : tie.MeasureT-loop

@@ -58,8 +58,8 @@ put-node-below t =
 
 abbrev put-node-Inv-loop : put-node-lts.InvT-loop
 put-node-Inv-loop out₀ room image v id levels q keys s₀ o₀ k₀ t21 t22 out s o k =
-    (run room (entryForms (nodeForm (viewOf image v) (levels - 1)) (map (entryShown (v .reader) image) (readable (entryAt (q .keys .reader) image) (runAt image q s k)))) (outputOf o out)
-    ≡ run room (entryForms (nodeForm (viewOf image v) (levels - 1)) (map (entryShown (v .reader) image) (readable (entryAt (q .keys .reader) image) (runAt image q s₀ k₀)))) (outputOf o₀ out₀))
+    (run room (entryForms (nodeForm (viewOf image v) (levels - 1)) (map (entryShown (v .reader) image) (readable (entryAt (q .keys .hashed) (q .keys .reader) image) (runAt image q s k)))) (outputOf o out)
+    ≡ run room (entryForms (nodeForm (viewOf image v) (levels - 1)) (map (entryShown (v .reader) image) (readable (entryAt (q .keys .hashed) (q .keys .reader) image) (runAt image q s₀ k₀)))) (outputOf o₀ out₀))
     × (length out ≡ length out₀)
 
 abbrev put-node-μ-loop : put-node-lts.MeasureT-loop

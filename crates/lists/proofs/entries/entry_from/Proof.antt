@@ -12,7 +12,7 @@ use Rattle.lists.proofs.entries.entry_from.Tie as tie
 
 abbrev Inv-loop : tie.InvT-loop
 Inv-loop image id place q keys kept₀ left₀ s₀ i₀ kept left s i =
-    reading (entryAt (q .keys .reader) image) (sought (entryPlaced kept) left) (runAt image q s i) ≡ placed place (listOf (entryAt (q .keys .reader) image) (runAt image q s₀ i₀))
+    reading (entryAt (q .keys .hashed) (q .keys .reader) image) (sought (entryPlaced kept) left) (runAt image q s i) ≡ placed place (listOf (entryAt (q .keys .hashed) (q .keys .reader) image) (runAt image q s₀ i₀))
 
 abbrev μ-loop : tie.MeasureT-loop
 μ-loop image id place q keys kept₀ left₀ s₀ i₀ kept left s i = rest image q s i

@@ -11,7 +11,7 @@ use Rattle.paths.proofs.walk.entry_named.Tie as tie
 
 abbrev Inv-loop : tie.InvT-loop
 Inv-loop image id part nodes q keys reader rule choice₀ s₀ i₀ choice s i =
-    reading (entryAt (q .keys .reader) image) (choosing rule reader image part choice) (runAt image q s i) ≡ foundIn rule reader image part (entryAt (q .keys .reader) image) (scanOf image q nodes)
+    reading (entryAt (q .keys .hashed) (q .keys .reader) image) (choosing rule reader image part choice) (runAt image q s i) ≡ foundIn rule reader image part (entryAt (q .keys .hashed) (q .keys .reader) image) (scanOf image q nodes)
 
 abbrev μ-loop : tie.MeasureT-loop
 μ-loop image id part nodes q keys reader rule choice₀ s₀ i₀ choice s i = rest image q s i

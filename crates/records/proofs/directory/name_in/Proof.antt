@@ -1,6 +1,7 @@
 use borrow.Author.Needs.{needs}
 use Rattle.records.specs.Directory.{nameIn}
-use Rattle.records.proofs.Laws.{all, same-to, other-to}
+use Rattle.error.proofs.Laws.{picks}
+use Rattle.records.proofs.Laws.{all}
 use Rattle.records.proofs.directory.name_in.Statement.{statement}
 use Rattle.records.proofs.directory.name_in.Tie as tie
 
@@ -10,18 +11,6 @@ name-in-spec =
     tie.close
     (tie.spec
     (λ c κs. search needs)
-    (λ c. search needs)
-    (λ c. search needs)
-    (λ c. search all)
-    (λ c. search needs)
-    (λ c. search needs)
-    (λ c. search all)
+    (λ c. search (all, picks))
     (λ c κs. search needs)
-    (λ c. search needs)
-    (λ c. search needs)
-    (λ c. search all)
-    (λ c. search all)
-    (λ c κs. search needs)
-    (λ c. search needs)
-    (λ c. search (all, same-to, other-to))
-    (λ c. search (all, same-to, other-to)))
+    (λ c. search (all, picks)))
