@@ -10,7 +10,7 @@ use compare::opening::run::stick_seed;
 use compare::pairs::pair::Pair;
 use compare::pairs::run::Run;
 use compare::pairs::{by_oracle, planned, Ports};
-use sticks::{make, Stick};
+use sticks::{make, Plan, Stick};
 
 const ENOUGH: u64 = 80;
 const RIGHT: Ports = Ports { list: &by_oracle::list, call: &by_oracle::call };
@@ -198,7 +198,8 @@ fn swapped_pairs_are_found() {
 #[test]
 fn planned_listings_are_the_oracles() {
     let mut seen = 0;
-    for stick in (0..ENOUGH).map(Stick::from_seed).filter(|s| s.plan.opens()) {
+    let plans = (0..ENOUGH).map(Plan::draw).filter(Plan::opens);
+    for stick in plans.flat_map(|p| [p.at_edges(), p]).map(make) {
         for (i, v) in stick.plan.volumes.iter().enumerate().filter(|(_, v)| v.is_regular()) {
             let mut out = vec![0; LONGEST];
             let n = by_oracle::list(&stick.image, i as u64, &mut out);

@@ -43,8 +43,46 @@ pub enum Key {
     Plain,
     /// Hashed, without the zero byte at the end.
     Bare,
+    /// Plain, without the zero byte at the end.
+    BarePlain,
     /// Of a length that fits neither form.
     Wrong,
+    /// The name is all that follows the head of the key, a count included.
+    Raw,
+}
+
+impl Key {
+    /// The same in the other form, unless it has neither.
+    pub fn other(self) -> Key {
+        match self {
+            Key::Hashed => Key::Plain,
+            Key::Plain => Key::Hashed,
+            Key::Bare => Key::BarePlain,
+            Key::BarePlain => Key::Bare,
+            Key::Wrong | Key::Raw => self,
+        }
+    }
+
+    /// The same in the form that a volume's keys have.
+    pub fn formed(self, hashed: bool) -> Key {
+        match self {
+            Key::Plain | Key::BarePlain if hashed => self.other(),
+            Key::Hashed | Key::Bare if !hashed => self.other(),
+            _ => self,
+        }
+    }
+
+    /// How many bytes the key of a name has.
+    pub fn length(self, name: &[u8]) -> usize {
+        let beside = match self {
+            Key::Hashed | Key::Wrong => 13,
+            Key::Bare => 12,
+            Key::Plain => 11,
+            Key::BarePlain => 10,
+            Key::Raw => 8,
+        };
+        beside + name.len()
+    }
 }
 
 #[derive(Clone, Debug)]
@@ -143,6 +181,17 @@ impl Inode {
 }
 
 impl Contents {
+    /// Whether directory keys are hashed, by the volume's kind.
+    pub fn has_hashed_keys(&self) -> bool {
+        self.case_insensitive || self.normalization_insensitive
+    }
+
+    /// Every key in the form that the volume's kind asks for.
+    pub fn form_keys(&mut self) {
+        let hashed = self.has_hashed_keys();
+        self.files.iter_mut().flat_map(|f| &mut f.entries).for_each(|e| e.key = e.key.formed(hashed));
+    }
+
     pub fn stream(&self, id: u64) -> &[Extent] {
         self.streams.iter().find(|s| s.id == id).map_or(&[], |s| &s.extents)
     }

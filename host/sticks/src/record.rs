@@ -60,10 +60,11 @@ fn fields(list: &[Field]) -> Vec<u8> {
 
 pub fn entry(dir: u64, e: &Entry, insensitive: bool) -> Record {
     let mut k = head(dir, DIR_REC);
-    let zero = usize::from(e.key != Key::Bare);
+    let zero = usize::from(matches!(e.key, Key::Hashed | Key::Plain | Key::Wrong));
     let length = e.name.len() + zero + if e.key == Key::Wrong { 3 } else { 0 };
     match e.key {
-        Key::Plain => k.extend((length as u16).to_le_bytes()),
+        Key::Raw => {}
+        Key::Plain | Key::BarePlain => k.extend((length as u16).to_le_bytes()),
         _ => k.extend((length as u32 | name_hash(&e.name, insensitive) << 10).to_le_bytes()),
     }
     k.extend(&e.name);

@@ -1,7 +1,7 @@
 //! What the seed decides, and that every kind of thing is drawn.
 
 use sticks::checkpoint::Fault;
-use sticks::contents::{text, Contents, Data, Extent, Field, Key, Source, LINK_ATTRIBUTE, NAME_FIELD};
+use sticks::contents::{text, Contents, Data, Entry, Extent, Field, Key, Source, LINK_ATTRIBUTE, NAME_FIELD};
 use sticks::sums::{checksum, name_hash};
 use sticks::volume::{Lost, Volume};
 use sticks::{damage, damage_at, make, Aim, Plan, Stick};
@@ -233,6 +233,106 @@ fn every_kind_of_name_is_drawn() {
             ("names twice", twice),
             ("names that differ by case", by_case),
             ("hard links", hard_link),
+        ],
+    );
+}
+
+fn entries(c: &Contents) -> impl Iterator<Item = &Entry> {
+    c.files.iter().flat_map(|f| &f.entries)
+}
+
+#[test]
+fn keys_go_by_the_volumes_kind() {
+    for (i, c) in drawn().iter().enumerate() {
+        let formed = |e: &Entry| e.key == e.key.formed(c.has_hashed_keys());
+        let long = |e: &Entry| !c.regular || e.key.length(&e.name) >= 12;
+        assert!(entries(c).all(|e| formed(e) && long(e)), "volume {i}");
+    }
+}
+
+/// Where the drawn forms are the volume's already, the stick is the same.
+#[test]
+fn mixed_sticks_differ_in_their_keys_alone() {
+    let (mut same, mut other) = (0, 0);
+    for seed in 0..200 {
+        let (mixed, plan) = (Plan::mixed(seed), Plan::draw(seed));
+        let all =
+            |p: &Plan| p.volumes.iter().flat_map(|v| entries(&v.contents).map(|e| e.key).collect::<Vec<_>>()).collect();
+        let keys: [Vec<Key>; 2] = [all(&mixed), all(&plan)];
+        let (alike, equal) = (keys[0] == keys[1], make(mixed).image == make(plan).image);
+        assert!(equal || !alike, "stick {seed}");
+        (same, other) = (same + usize::from(alike), other + usize::from(!equal));
+    }
+    assert!(same > 40 && other > 40, "{same} and {other}");
+}
+
+/// What is known of a volume with keys about the edges, and of one of its entries.
+type AtEdge = (bool, Entry);
+
+fn at_edges() -> Vec<AtEdge> {
+    let contents = plans().into_iter().flat_map(|p| p.at_edges().volumes).map(|v| v.contents);
+    contents.flat_map(|c| entries(&c).map(|e| (c.has_hashed_keys(), e.clone())).collect::<Vec<_>>()).collect()
+}
+
+fn plain_of(e: &AtEdge, length: usize) -> bool {
+    !e.0 && matches!(e.1.key, Key::Plain | Key::BarePlain) && e.1.key.length(&e.1.name) == length
+}
+
+fn hashed_of(e: &AtEdge, length: usize) -> bool {
+    e.0 && matches!(e.1.key, Key::Hashed | Key::Bare) && e.1.key.length(&e.1.name) == length
+}
+
+fn is_other(e: &AtEdge) -> bool {
+    e.1.key != e.1.key.formed(e.0)
+}
+
+/// Of a key that states its own count, how many bytes more it has, by its volume's form.
+fn off(e: &AtEdge) -> Option<i64> {
+    let start = if e.0 { 4 } else { 2 };
+    if e.1.key != Key::Raw || e.1.name.len() < start {
+        return None;
+    }
+    let low = u16::from_le_bytes([e.1.name[0], e.1.name[1]]);
+    let count = if e.0 { low & 0x3ff } else { low };
+    Some((e.1.name.len() - start) as i64 - i64::from(count))
+}
+
+fn raw_of(e: &AtEdge, length: usize) -> bool {
+    e.1.key == Key::Raw && e.1.key.length(&e.1.name) == length
+}
+
+#[test]
+fn every_edge_of_a_key_is_drawn() {
+    all_seen(
+        &at_edges(),
+        &[
+            ("plain, 10 bytes", |e| plain_of(e, 10)),
+            ("plain, 11 bytes, of a name", |e| plain_of(e, 11) && e.1.key == Key::BarePlain),
+            ("plain, 11 bytes, of a zero byte", |e| plain_of(e, 11) && e.1.key == Key::Plain),
+            ("plain, 12 bytes", |e| plain_of(e, 12)),
+            ("plain, a field of 1,023", |e| plain_of(e, 10 + 1023)),
+            ("plain, a field of 1,024", |e| plain_of(e, 10 + 1024)),
+            ("hashed, 12 bytes", |e| hashed_of(e, 12)),
+            ("hashed, 13 bytes", |e| hashed_of(e, 13)),
+            ("hashed, a field of 1,023", |e| hashed_of(e, 12 + 1023)),
+            ("a hashed key on a plain volume", |e| !e.0 && is_other(e)),
+            ("a plain key on a hashed volume", |e| e.0 && is_other(e)),
+            ("a plain key of 10 bytes on a hashed volume", |e| e.0 && is_other(e) && e.1.key.length(&e.1.name) == 10),
+            ("a plain key of 11 bytes on a hashed volume", |e| e.0 && is_other(e) && e.1.key.length(&e.1.name) == 11),
+            ("one byte too many, hashed", |e| e.0 && off(e) == Some(1)),
+            ("one byte too few, hashed", |e| e.0 && off(e) == Some(-1)),
+            ("one byte too many, plain", |e| !e.0 && off(e) == Some(1)),
+            ("one byte too few, plain", |e| !e.0 && off(e) == Some(-1)),
+            ("a field of 1,024 on a hashed volume", |e| e.0 && raw_of(e, 12 + 1024)),
+            ("1,024 bytes too many", |e| e.0 && off(e) == Some(1024)),
+            ("9 bytes on a hashed volume", |e| e.0 && raw_of(e, 9)),
+            ("10 bytes on a hashed volume", |e| e.0 && raw_of(e, 10)),
+            ("11 bytes on a hashed volume", |e| e.0 && raw_of(e, 11)),
+            ("12 bytes on a hashed volume", |e| e.0 && raw_of(e, 12)),
+            ("9 bytes on a plain volume", |e| !e.0 && raw_of(e, 9)),
+            ("10 bytes on a plain volume", |e| !e.0 && raw_of(e, 10)),
+            ("11 bytes on a plain volume", |e| !e.0 && raw_of(e, 11)),
+            ("12 bytes on a plain volume", |e| !e.0 && raw_of(e, 12)),
         ],
     );
 }

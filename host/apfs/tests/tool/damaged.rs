@@ -1,6 +1,6 @@
 //! Names with damaged bytes are marked, those in which U+FFFD was typed are not.
 
-use sticks::contents::{Attribute, Contents, Data, Field, Key, LINK_ATTRIBUTE, NAME_FIELD};
+use sticks::contents::{Attribute, Contents, Data, Entry, Field, LINK_ATTRIBUTE, NAME_FIELD};
 use sticks::Plan;
 
 use crate::image::{out, Image};
@@ -49,11 +49,7 @@ fn each_entry_has_its_own_mark() {
         let notes = c.files.iter_mut().find(|f| f.inode.id == 17).expect("a directory");
         let more = [&b"a\xff\xfe"[..], b"plain", b"\xef\xbf\xbd\xe2\x82", b"zero\0\xff"];
         let one = notes.entries[0].clone();
-        notes.entries.extend(more.map(|name| sticks::contents::Entry {
-            key: Key::Plain,
-            name: name.into(),
-            ..one.clone()
-        }));
+        notes.entries.extend(more.map(|name| Entry { name: name.into(), ..one.clone() }));
     });
     let text = out(image.run(&["ls"], &["notes"]));
     let names: Vec<&str> = text.lines().map(|l| &l[22..]).collect();

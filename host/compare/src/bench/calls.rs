@@ -14,6 +14,7 @@ use sticks::{make, Plan};
 use crate::bench::{line, Timed};
 use crate::calls::call::Call;
 use crate::calls::check::Subject;
+use crate::calls::directory::{Directories, Rule};
 use crate::calls::expected::{self, of_image, Answer};
 use crate::calls::Port;
 use crate::image::Image;
@@ -76,6 +77,7 @@ fn lookup(width: u64, sensitive: bool, port: Option<Port>) -> String {
     let mut contents = large::directories(width);
     contents.case_insensitive = !sensitive;
     contents.normalization_insensitive = !sensitive;
+    contents.form_keys();
     timed(&what, contents, &[call], &by_oracle, port)
 }
 
@@ -93,7 +95,7 @@ fn entries(width: u64, port: Option<Port>) -> String {
     }
     let by_oracle = |v: &Volume, call: &Call| {
         let Call::Entries { id, place, length } = call else { unreachable!("entries alone") };
-        black_box(expected::entries(v, *id, *place, *length).is_ok());
+        black_box(expected::entries(&Directories::of(v, Rule::Length), *id, *place, *length).is_ok());
     };
     timed(&format!("a directory of {width:>6} entries, in buffers of 1 MiB"), contents, &calls, &by_oracle, port)
 }

@@ -10,6 +10,7 @@ use sticks::random::Random;
 use sticks::{make, Plan};
 
 use crate::bench::{line, Timed};
+use crate::calls::directory::Rule;
 use crate::list::trace::{End, Trace};
 use crate::list::{walk, Port};
 use crate::opening::answer::container;
@@ -23,7 +24,7 @@ const EXTENTS: [u64; 2] = [1, 1000];
 
 fn by_oracle(image: &Arc<Vec<u8>>) -> Trace {
     let c = container(image).expect("a container");
-    walk::with_room(image, &c, 0, ROOM)
+    walk::with_room(image, &c, 0, ROOM, Rule::Length)
 }
 
 fn volume(what: &str, contents: Contents, port: Option<Port>) -> String {

@@ -6,6 +6,7 @@ use oracle::nx::Container;
 use oracle::probe;
 
 use crate::calls::call::Call;
+use crate::calls::directory::{Account, Directories, Rule};
 use crate::calls::{line, names, replaced, stream};
 use crate::image::Image;
 use crate::opening::answer::{self, caught};
@@ -43,6 +44,14 @@ pub enum Kind {
 pub struct Expected {
     pub answer: Answer,
     pub kind: Kind,
+    /// Of the directories that the call reads.
+    pub account: Account,
+}
+
+impl Expected {
+    pub fn new(answer: Answer, kind: Kind) -> Expected {
+        Expected { answer, kind, account: Account::None }
+    }
 }
 
 /// Why there is no answer in bytes.
@@ -68,7 +77,7 @@ impl From<Told> for Expected {
             Err(Stop::Added(n)) => (Answer::Refused(n), Kind::Added(n)),
             Err(Stop::Open(why)) => (Answer::Any, Kind::Open(why)),
         };
-        Expected { answer, kind }
+        Expected::new(answer, kind)
     }
 }
 
@@ -81,12 +90,16 @@ fn stopped(a: answer::Answer, opened: bool) -> Expected {
     match a {
         answer::Answer::Overflow if opened => Err(Stop::Added(OVERFLOW)).into(),
         answer::Answer::Overflow => Err(Stop::Open("overflow in opening")).into(),
-        other => Expected { answer: Answer::Panic(other.to_string()), kind: Kind::Open("panic") },
+        other => Expected::new(Answer::Panic(other.to_string()), Kind::Open("panic")),
     }
 }
 
 /// Of an image that no more is known of than its part.
 pub fn of_image(image: &Image, volume: u64, call: &Call) -> Expected {
+    told_by(Rule::Kind, image, volume, call)
+}
+
+pub fn told_by(rule: Rule, image: &Image, volume: u64, call: &Call) -> Expected {
     let part = match &image.part {
         Ok(part) => part,
         Err(number) => return Err(Stop::Added(*number)).into(),
@@ -95,46 +108,53 @@ pub fn of_image(image: &Image, volume: u64, call: &Call) -> Expected {
         return Err(Stop::Open("ring or maps too large")).into();
     }
     match caught(|| answer::container(part)) {
-        Ok(Ok(c)) => of_container(part, &c, volume, call),
+        Ok(Ok(c)) => of_container(part, &c, volume, call, rule),
         Ok(Err(e)) => Err(Stop::Oracle(e)).into(),
         Err(a) => stopped(a, false),
     }
 }
 
-pub fn of_container(part: &[u8], c: &Container, volume: u64, call: &Call) -> Expected {
+fn of_container(part: &[u8], c: &Container, volume: u64, call: &Call, rule: Rule) -> Expected {
     match caught(|| c.volume(volume as usize)) {
-        Ok(Ok(v)) => of_volume(part, c, &v, call),
+        Ok(Ok(v)) => of_volume(part, c, &Directories::of(&v, rule), call),
         Ok(Err(e)) => Err(Stop::Oracle(e)).into(),
         Err(a) => stopped(a, true),
     }
 }
 
-pub fn of_volume(part: &[u8], c: &Container, v: &Volume, call: &Call) -> Expected {
+pub fn of_volume(part: &[u8], c: &Container, dirs: &Directories, call: &Call) -> Expected {
+    let v = dirs.v;
     let told = caught(|| match call {
-        Call::Lookup { path } => lookup(v, path),
+        Call::Lookup { path } => lookup(dirs, path),
         Call::Read { id, offset, length } => read(v, *id, *offset, *length),
-        Call::Entry { id, place } => entry(v, *id, *place),
-        Call::Entries { id, place, length } => entries(v, *id, *place, *length),
+        Call::Entry { id, place } => entry(dirs, *id, *place),
+        Call::Entries { id, place, length } => entries(dirs, *id, *place, *length),
         Call::Xattr { id, place } => xattr(part, c, v, *id, *place),
         Call::XattrBytes { id, place } => xattr_bytes(part, c, v, *id, *place),
         Call::Link { id } => link(part, c, v, *id),
         Call::Extent { id, place } => extent(v, *id, *place),
-        Call::Replaced { kind, id, place } => replaced::of_volume(part, c, v, *kind, *id, *place),
+        Call::Replaced { kind, id, place } => replaced::of_volume(part, c, dirs, *kind, *id, *place),
     });
-    told.map_or_else(|a| stopped(a, true), Expected::from)
+    let expected = told.map_or_else(|a| stopped(a, true), Expected::from);
+    Expected { account: dirs.take_account(), ..expected }
 }
 
 pub fn at<T>(list: &[T], place: u64) -> Option<&T> {
     usize::try_from(place).ok().and_then(|i| list.get(i))
 }
 
-fn lookup(v: &Volume, path: &[u8]) -> Told {
+/// Where the Rust reads all directories on the way alike, it is asked for the inode.
+fn lookup(dirs: &Directories, path: &[u8]) -> Told {
     let path = std::str::from_utf8(path).map_err(|_| Stop::Added(PATH_NOT_UTF8))?;
-    let kind = match names::followed(v, path) {
+    let followed = names::followed(dirs, path);
+    if dirs.account() == Account::Reference {
+        return followed.and_then(|(inode, kind)| answered(line::node(&inode), kind));
+    }
+    let kind = match followed {
         Err(Stop::Added(n)) => return Err(Stop::Added(n)),
-        followed => followed.unwrap_or("not followed"),
+        followed => followed.map_or("not followed", |(_, kind)| kind),
     };
-    answered(line::node(&v.lookup_path(path)?), kind)
+    answered(line::node(&dirs.v.lookup_path(path)?), kind)
 }
 
 fn read(v: &Volume, id: u64, offset: u64, length: usize) -> Told {
@@ -162,16 +182,16 @@ fn read_kind(inode: &Inode, extents: &[Extent], offset: u64, n: u64) -> &'static
     }
 }
 
-fn entry(v: &Volume, id: u64, place: u64) -> Told {
-    match at(&v.read_dir(id)?, place) {
+fn entry(dirs: &Directories, id: u64, place: u64) -> Told {
+    match at(&dirs.read(id)?, place) {
         Some(e) => answered(line::entry(e), "entry"),
         None => answered("", "past the end"),
     }
 }
 
 /// As many whole lines as fit; 6 where there is one and it does not fit.
-pub fn entries(v: &Volume, id: u64, place: u64, room: usize) -> Told {
-    let list = v.read_dir(id)?;
+pub fn entries(dirs: &Directories, id: u64, place: u64, room: usize) -> Told {
+    let list = dirs.read(id)?;
     let rest = usize::try_from(place).ok().and_then(|i| list.get(i..)).unwrap_or_default();
     let mut text = String::new();
     for (i, e) in rest.iter().enumerate() {

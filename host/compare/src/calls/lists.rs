@@ -1,8 +1,9 @@
-//! All that the oracle's calls give of one id, as far as they give it.
+//! All that the oracle's calls, or the host's account of directories, give of one id, as far as they give it.
 
 use oracle::error::Result;
-use oracle::fs::{DirEntry, Extent, Inode, Volume, Xattr};
+use oracle::fs::{DirEntry, Extent, Inode, Xattr};
 
+use crate::calls::directory::Directories;
 use crate::opening::answer::caught;
 
 #[derive(Default)]
@@ -18,10 +19,13 @@ fn given<T>(f: impl FnOnce() -> Result<T>) -> Option<T> {
 }
 
 impl Lists {
-    pub fn of(v: &Volume, id: u64) -> Lists {
+    pub fn of(dirs: &Directories, id: u64) -> Lists {
+        let v = dirs.v;
         let inode = given(|| v.inode(id));
         let extents = inode.as_ref().and_then(|i| given(|| v.file_extents(i)));
-        Lists { inode, entries: given(|| v.read_dir(id)), xattrs: given(|| v.xattrs(id)), extents }
+        let entries = given(|| dirs.read(id));
+        dirs.take_account();
+        Lists { inode, entries, xattrs: given(|| v.xattrs(id)), extents }
     }
 
     /// 0 without a data stream.

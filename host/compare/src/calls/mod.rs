@@ -3,8 +3,10 @@
 
 pub mod call;
 pub mod check;
+pub mod directory;
 pub mod draw;
 pub mod expected;
+pub mod keys;
 pub mod line;
 pub mod lists;
 pub mod met;

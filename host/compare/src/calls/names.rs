@@ -1,33 +1,34 @@
 //! How a path is followed, as far as the comparison's domain asks.
 
-use oracle::fs::{DirEntry, Volume};
+use oracle::error::Error;
+use oracle::fs::{DirEntry, Inode, NameRule};
 
+use crate::calls::directory::Directories;
 use crate::calls::expected::Stop;
 
 /// A character above U+007F was met where names are compared by their keys.
 const NOT_COVERED: u64 = 9;
 
-/// What a path leads through: "root", "exact" names alone, or some found "by key".
-pub fn followed(v: &Volume, path: &str) -> Result<&'static str, Stop> {
+/// Where a path leads, and through what: "root", "exact" names alone, or some found "by key".
+pub fn followed(dirs: &Directories, path: &str) -> Result<(Inode, &'static str), Stop> {
     let mut kind = "root";
-    let mut at = v.root()?.id;
+    let mut at = dirs.v.root()?;
     for part in path.split(['/', '\\']).filter(|p| !p.is_empty()) {
-        let entries = v.read_dir(at)?;
+        let entries = dirs.read(at.id)?;
         let exact = entries.iter().find(|e| e.name == part);
         let hit = match exact {
             Some(e) => Some(e),
-            None => by_key(v, &entries, part)?,
+            None => by_key(dirs.v.name_rule(), &entries, part)?,
         };
         kind = if exact.is_none() || kind == "by key" { "by key" } else { "exact" };
-        let Some(hit) = hit else { break };
-        at = v.inode(hit.file_id)?.id;
+        let hit = hit.ok_or_else(|| Error::NotFound(part.into()))?;
+        at = dirs.v.inode(hit.file_id)?;
     }
-    Ok(kind)
+    Ok((at, kind))
 }
 
 /// The first entry whose key is the part's; on an insensitive volume no wide name may be met before it.
-fn by_key<'e>(v: &Volume, entries: &'e [DirEntry], part: &str) -> Result<Option<&'e DirEntry>, Stop> {
-    let rule = v.name_rule();
+fn by_key<'e>(rule: NameRule, entries: &'e [DirEntry], part: &str) -> Result<Option<&'e DirEntry>, Stop> {
     let wide = |name: &str| (rule.case_insensitive || rule.normalization_insensitive) && !name.is_ascii();
     if wide(part) {
         return Err(Stop::Added(NOT_COVERED));

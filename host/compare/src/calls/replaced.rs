@@ -7,6 +7,7 @@ use oracle::probe;
 use sticks::contents::{text, Contents, Data, File, LINK_ATTRIBUTE, NAME_FIELD};
 
 use crate::calls::call::Call;
+use crate::calls::directory::Directories;
 use crate::calls::expected::{answered, at, Answer, Expected, Kind, Stop, Told};
 use crate::calls::{stored, stream};
 
@@ -65,7 +66,8 @@ fn told(kind: u64, field: Option<&[u8]>) -> Told {
 }
 
 /// By the bytes that stand in the image. They must read as the Rust reads the name.
-pub fn of_volume(part: &[u8], c: &Container, v: &Volume, kind: u64, id: u64, place: u64) -> Told {
+pub fn of_volume(part: &[u8], c: &Container, dirs: &Directories, kind: u64, id: u64, place: u64) -> Told {
+    let v = dirs.v;
     let (field, read) = match kind {
         LABEL => (Some(stored::label(v)), Some(v.sb.name.clone())),
         INODE => {
@@ -73,8 +75,8 @@ pub fn of_volume(part: &[u8], c: &Container, v: &Volume, kind: u64, id: u64, pla
             (stored::inode(v, id)?, inode.name)
         }
         ENTRY => {
-            let list = v.read_dir(id)?;
-            (at(&stored::entries(v, id)?, place).cloned(), at(&list, place).map(|e| e.name.clone()))
+            let list = dirs.read(id)?;
+            (at(&dirs.fields(id)?, place).cloned(), at(&list, place).map(|e| e.name.clone()))
         }
         ATTRIBUTE => {
             let list = v.xattrs(id)?;
@@ -132,6 +134,6 @@ fn of_link(c: &Contents, f: &File) -> Expected {
     match f.attributes.iter().find(|a| is_link(&a.name)).map(|a| &a.data) {
         Some(Data::Embedded(bytes)) => told(LINK, Some(bytes)).into(),
         Some(Data::Stream { id, size }) => told(LINK, Some(&c.bytes(*id, *size))).into(),
-        None => Expected { answer: Answer::Refused(NO_LINK), kind: Kind::Refused(NO_LINK) },
+        None => Expected::new(Answer::Refused(NO_LINK), Kind::Refused(NO_LINK)),
     }
 }

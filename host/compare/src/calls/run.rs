@@ -11,6 +11,7 @@ use sticks::{damage_at, make, Aim, Stick};
 
 use crate::calls::call::Call;
 use crate::calls::check::Subject;
+use crate::calls::directory::{Directories, Rule};
 use crate::calls::expected::{self, Answer, Expected};
 use crate::calls::lists::Lists;
 use crate::calls::met::Met;
@@ -25,6 +26,8 @@ use crate::opening::shrink::shrink;
 const DAMAGES: u64 = 4;
 /// One stick of so many is made once more with patched names, and that one is damaged once.
 const PATCHED: u64 = 24;
+/// So with directory keys about the edges of their forms.
+const AT_EDGES: u64 = 8;
 /// Of a damaged superblock's volumes, no more are asked about.
 const VOLUMES: u64 = 5;
 
@@ -39,7 +42,7 @@ pub struct Failure {
     pub seed: u64,
     /// The stick's place in the run.
     pub stick: u64,
-    /// Which damage, from 1; 0 for the stick as it was made, and past the last damage the one with patched names.
+    /// Which damage, from 1; 0 for the stick as it was made, and past the last damage those made once more.
     pub damage: u64,
     pub mismatch: Box<Mismatch>,
     pub image: Arc<Vec<u8>>,
@@ -70,7 +73,8 @@ impl Run {
         for i in 0..count {
             let whole = Stick::from_seed(stick_seed(seed, i));
             let patched = i.is_multiple_of(PATCHED).then(|| make(whole.plan.patched()));
-            let again = patched.iter().flat_map(|stick| [(stick, 0), (stick, 1)]);
+            let at_edges = i.is_multiple_of(AT_EDGES).then(|| make(whole.plan.at_edges()));
+            let again = patched.iter().chain(&at_edges).flat_map(|stick| [(stick, 0), (stick, 1)]);
             for (n, (stick, k)) in (0..).zip((0..=DAMAGES).map(|k| (&whole, k)).chain(again)) {
                 let of = whole.plan.seed;
                 let image = if k == 0 { stick.image.clone() } else { damaged(&stick.image, of, k) };
@@ -174,21 +178,22 @@ impl Trial<'_> {
 
     fn volume(&mut self, part: &[u8], c: &Container, i: u64, plan: &Contents) -> Checked {
         let Ok(Ok(v)) = caught(|| c.volume(i as usize)) else { return self.each(i) };
+        let dirs = Directories::of(&v, Rule::Kind);
         let mut calls = draw::lookups(plan, &mut self.random);
         calls.push(self.name());
         for call in calls {
-            let want = expected::of_volume(part, c, &v, &call);
+            let want = expected::of_volume(part, c, &dirs, &call);
             self.judge(i, call, want)?;
         }
         for id in draw::ids(plan, &mut self.random) {
-            let lists = Lists::of(&v, id);
+            let lists = Lists::of(&dirs, id);
             self.met.count(&lists, probe::block_count(c), c.block_size().into());
             let mut calls = draw::on(&lists, id, c.block_size().into(), &mut self.random);
             calls.extend(draw::in_one_call(&lists, id, &mut self.random));
             let name = draw::name(&lists, id, &mut self.random);
             calls.extend(self.random.chance(1, 2).then_some(name));
             for call in calls {
-                let want = expected::of_volume(part, c, &v, &call);
+                let want = expected::of_volume(part, c, &dirs, &call);
                 self.judge(i, call, want)?;
             }
         }
@@ -206,6 +211,7 @@ impl Trial<'_> {
 
     fn judge(&mut self, volume: u64, call: Call, want: Expected) -> Checked {
         self.tally.count(&call, want.kind);
+        self.tally.account(&call, &want);
         let image = &self.image.whole;
         let checked = match (self.port, &want.answer) {
             (Some(port), _) => Subject { port, image, volume, call: &call }.check(&want, &mut self.random),

@@ -1,10 +1,10 @@
 //! The bytes of names as they stand in an image, of which the Rust hands out the texts alone. What it refuses has been
-//! refused before these are asked for.
+//! refused before these are asked for. Those of entries stand in [`crate::calls::keys`].
 
 use oracle::error::Result;
-use oracle::fs::{Volume, APFS_TYPE_DIR_REC, APFS_TYPE_INODE, APFS_TYPE_XATTR};
+use oracle::fs::{Volume, APFS_TYPE_INODE, APFS_TYPE_XATTR};
 use oracle::probe;
-use sticks::block::{get16, get32};
+use sticks::block::get16;
 use sticks::contents::NAME_FIELD;
 
 const LABEL: std::ops::Range<usize> = 704..960;
@@ -38,21 +38,10 @@ fn last_name(b: &[u8]) -> Option<Vec<u8>> {
     last
 }
 
-pub fn entries(v: &Volume, id: u64) -> Result<Vec<Vec<u8>>> {
-    keys(v, id, APFS_TYPE_DIR_REC, |k| {
-        let hashed = k.len() == 12 + (get32(k, 8) & 0x3ff) as usize;
-        k[if hashed { 12 } else { 10 }..].to_vec()
-    })
-}
-
 pub fn attributes(v: &Volume, id: u64) -> Result<Vec<Vec<u8>>> {
-    keys(v, id, APFS_TYPE_XATTR, |k| k[10..10 + usize::from(get16(k, 8))].to_vec())
-}
-
-fn keys(v: &Volume, id: u64, kind: u8, name: fn(&[u8]) -> Vec<u8>) -> Result<Vec<Vec<u8>>> {
     let mut out = Vec::new();
-    probe::records(v, id, kind, &mut |key, _| {
-        out.push(name(key));
+    probe::records(v, id, APFS_TYPE_XATTR, &mut |key, _| {
+        out.push(key[10..10 + usize::from(get16(key, 8))].to_vec());
         Ok(true)
     })?;
     Ok(out)

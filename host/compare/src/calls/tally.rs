@@ -4,13 +4,19 @@ use std::collections::BTreeMap;
 use std::fmt;
 
 use crate::calls::call::{Call, NAMES};
-use crate::calls::expected::Kind;
+use crate::calls::directory::Account;
+use crate::calls::expected::{Answer, Expected, Kind};
 use crate::calls::replaced;
 
 #[derive(Clone, Debug, Default)]
 pub struct Tally {
     pub seen: BTreeMap<(&'static str, Kind), u64>,
+    /// Calls that read directories, by whose account of their keys, and whether they are answered.
+    pub accounts: BTreeMap<(Account, &'static str, bool), u64>,
 }
+
+/// Calls that read directories.
+const OF_DIRECTORIES: [&str; 4] = ["lookup", "entry", "entries", "replaced"];
 
 /// Of images without NXSB.
 const NO_PARTITION_TABLE: u64 = 11;
@@ -41,6 +47,28 @@ impl Tally {
         *self.seen.entry((call.name(), kind)).or_default() += 1;
     }
 
+    pub fn account(&mut self, call: &Call, want: &Expected) {
+        if want.account != Account::None {
+            let answered = matches!(want.answer, Answer::Bytes(_));
+            *self.accounts.entry((want.account, call.name(), answered)).or_default() += 1;
+        }
+    }
+
+    /// Each call that reads directories is to be answered and refused by either account.
+    pub fn missing_accounts(&self) -> Vec<String> {
+        let all = [Account::Rust, Account::Reference].into_iter().flat_map(|account| {
+            OF_DIRECTORIES.into_iter().flat_map(move |call| [true, false].map(|answered| (account, call, answered)))
+        });
+        let word = |answered: bool| if answered { "answered" } else { "refused" };
+        let lacks = all.filter(|k| !self.accounts.contains_key(k));
+        lacks.map(|(account, call, answered)| format!("{call} {} by {account}", word(answered))).collect()
+    }
+
+    fn counted(&self, account: Account, call: &'static str) -> String {
+        let n = |answered: bool| self.accounts.get(&(account, call, answered)).copied().unwrap_or(0);
+        format!("{call} {} answered, {} refused", n(true), n(false))
+    }
+
     /// How many calls there were.
     pub fn calls(&self) -> u64 {
         self.seen.values().sum()
@@ -49,7 +77,18 @@ impl Tally {
     /// Every kind that was never seen, by name.
     pub fn missing(&self) -> Vec<String> {
         let all = NAMES.into_iter().flat_map(|c| wanted(c).into_iter().map(move |k| (c, k)));
-        all.filter(|k| !self.seen.contains_key(k)).map(|(call, kind)| format!("{call}: {kind}")).collect()
+        let kinds = all.filter(|k| !self.seen.contains_key(k)).map(|(call, kind)| format!("{call}: {kind}"));
+        kinds.chain(self.missing_accounts()).collect()
+    }
+}
+
+impl fmt::Display for Account {
+    fn fmt(&self, f: &mut fmt::Formatter) -> fmt::Result {
+        f.write_str(match self {
+            Account::None => "no account",
+            Account::Rust => "the Rust",
+            Account::Reference => "the reference",
+        })
     }
 }
 
@@ -71,6 +110,10 @@ impl fmt::Display for Tally {
             let kinds = self.seen.iter().filter(|((c, _), _)| *c == call);
             let words: Vec<String> = kinds.map(|((_, kind), n)| format!("{kind} {n}")).collect();
             writeln!(f, "{call:11} {}", words.join("; "))?;
+        }
+        for account in [Account::Rust, Account::Reference] {
+            let words: Vec<String> = OF_DIRECTORIES.map(|call| self.counted(account, call)).into();
+            writeln!(f, "directory keys by {account}: {}", words.join("; "))?;
         }
         Ok(())
     }

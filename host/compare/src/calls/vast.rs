@@ -36,7 +36,7 @@ pub fn over(on: Agreed) -> Result<Option<u64>, String> {
 
 fn on(port: Port, image: &[u8], number: u64) -> Result<u64, String> {
     let mut random = Random::new(number);
-    let want = Expected { answer: Answer::Refused(number), kind: Kind::Added(number) };
+    let want = Expected::new(Answer::Refused(number), Kind::Added(number));
     let calls = [draw::each(&mut random), draw::each_name(&mut random)].concat();
     for call in &calls {
         let checked = Subject { port, image, volume: 0, call }.check(&want, &mut random);

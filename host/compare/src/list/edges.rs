@@ -1,6 +1,6 @@
 //! Volumes and images that no seed draws.
 
-use sticks::contents::{Contents, Extent, Source};
+use sticks::contents::{Contents, Extent, Key, Source};
 use sticks::plan::large;
 use sticks::random::Random;
 use sticks::{make, Plan};
@@ -30,13 +30,24 @@ pub fn images() -> Vec<Vec<u8>> {
     let chains = CHAINS.into_iter().map(|(depth, times)| large::chain(depth, times));
     let astray = [63, 64].into_iter().map(astray);
     let files = HOLES.into_iter().flat_map(|holes| SIZES.into_iter().map(|size| file(holes, size)));
-    chains.chain(astray).chain(files).map(|c| make(Plan::with_contents(c, 5)).image).collect()
+    let keys = [Key::BarePlain, Key::Bare].map(sensitive);
+    chains.chain(astray).chain(files).chain(keys).map(|c| make(Plan::with_contents(c, 5)).image).collect()
 }
 
 /// A chain one directory deeper, where that one has no inode.
 fn astray(depth: u64) -> Contents {
     let mut contents = large::chain(depth + 1, 1);
     contents.files.pop();
+    contents
+}
+
+/// Directories of a volume whose keys are plain, under names of no byte and of one.
+fn sensitive(key: Key) -> Contents {
+    let mut contents = large::chain(3, 2);
+    (contents.case_insensitive, contents.normalization_insensitive) = (false, false);
+    for (i, e) in contents.files.iter_mut().flat_map(|f| &mut f.entries).enumerate() {
+        (e.key, e.name) = (key, vec![b'a'; i % 2]);
+    }
     contents
 }
 

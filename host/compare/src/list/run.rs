@@ -4,7 +4,7 @@ use std::path::Path;
 use std::sync::Arc;
 
 use sticks::random::Random;
-use sticks::Stick;
+use sticks::{make, Stick};
 
 use crate::calls::run::damaged;
 use crate::image::Image;
@@ -19,6 +19,8 @@ use crate::opening::shrink::shrink;
 
 /// How often each stick is damaged.
 const DAMAGES: u64 = 4;
+/// One stick of so many is made once more with directory keys about the edges of their forms, and damaged once.
+const AT_EDGES: u64 = 8;
 /// Of a damaged superblock's volumes, no more are listed.
 const VOLUMES: u64 = 5;
 
@@ -26,7 +28,7 @@ pub struct Failure {
     pub seed: u64,
     /// The stick's place in the run, or among the edges.
     pub stick: u64,
-    /// Which damage, from 1; 0 for the stick as it was made.
+    /// Which damage, from 1; 0 for the stick as it was made, and past the last damage the one made once more.
     pub damage: u64,
     pub volume: u64,
     pub mismatch: Mismatch,
@@ -48,9 +50,11 @@ impl Run {
         let mut run = Run::default();
         for stick in 0..count {
             let whole = Stick::from_seed(stick_seed(seed, stick));
-            for damage in 0..=DAMAGES {
+            let at_edges = stick.is_multiple_of(AT_EDGES).then(|| make(whole.plan.at_edges()));
+            let again = at_edges.iter().flat_map(|made| [(made, 0), (made, 1)]);
+            for (damage, (made, k)) in (0..).zip((0..=DAMAGES).map(|k| (&whole, k)).chain(again)) {
                 let of = whole.plan.seed;
-                let image = if damage == 0 { whole.image.clone() } else { damaged(&whole.image, of, damage) };
+                let image = if k == 0 { made.image.clone() } else { damaged(&made.image, of, k) };
                 let image = Image::of(image);
                 let random = Random::new(of.wrapping_mul(31).wrapping_add(damage));
                 if let Err((volume, mismatch)) = run.image(&image, port, random) {

@@ -3,6 +3,7 @@
 use std::collections::BTreeMap;
 use std::fmt;
 
+use crate::calls::directory::Account;
 use crate::list::trace::{End, Trace};
 
 #[derive(Clone, Debug, Default)]
@@ -25,6 +26,8 @@ pub struct Tally {
     pub depths: BTreeMap<u64, u64>,
     /// The depth of the deepest whole listing.
     pub deepest: u64,
+    /// Listings by whose account of directory keys, and whether they are whole.
+    pub accounts: BTreeMap<(Account, bool), u64>,
 }
 
 /// Refusals that a run must have seen.
@@ -41,10 +44,15 @@ fn named(e: &End) -> String {
     }
 }
 
+fn accounted((account, whole): (Account, bool)) -> String {
+    format!("directory keys by {account}, {}", if whole { "whole" } else { "not whole" })
+}
+
 impl Tally {
     pub fn listing(&mut self, t: &Trace) {
         self.listings += 1;
         *self.ends.entry(named(&t.end)).or_default() += 1;
+        *self.accounts.entry((t.account, t.end == End::Whole)).or_default() += 1;
         self.bytes += t.text.len() as u64;
         if let Some(depth) = t.depth {
             *self.depths.entry(depth).or_default() += 1;
@@ -68,7 +76,9 @@ impl Tally {
         let refusals = WANTED.iter().filter(|n| !self.refused.contains_key(n)).map(|n| format!("refused with {n}"));
         let depths = [0, 1, 64].iter().filter(|d| !self.depths.contains_key(d)).map(|d| format!("depth {d}"));
         let text = (self.deepest < 64).then(|| "a whole listing as deep as may be".to_string());
-        refusals.chain(depths).chain(text).collect()
+        let all = [Account::Rust, Account::Reference].into_iter().flat_map(|a| [(a, true), (a, false)]);
+        let accounts = all.filter(|k| !self.accounts.contains_key(k)).map(accounted);
+        refusals.chain(depths).chain(text).chain(accounts).collect()
     }
 }
 
@@ -81,6 +91,8 @@ impl fmt::Display for Tally {
         writeln!(f, "{} listings, {} calls: {} answered", self.listings, self.calls, self.answered)?;
         writeln!(f, "calls refused, by number: {}", pairs(&self.refused))?;
         writeln!(f, "listings by end: {}", pairs(&self.ends))?;
+        let accounts: BTreeMap<String, u64> = self.accounts.iter().map(|(k, n)| (accounted(*k), *n)).collect();
+        writeln!(f, "listings by account: {}", pairs(&accounts))?;
         let sizes: BTreeMap<String, u64> = self.sizes.iter().map(|(k, n)| (format!("{:7}+", 1u64 << k), *n)).collect();
         writeln!(
             f,

@@ -1,5 +1,7 @@
 //! The lines of a listing, as far as they are read, and how it ends.
 
+use crate::calls::directory::Account;
+
 /// Longer texts are not followed to their end, and no buffer is as long.
 pub const LONGEST: usize = 1 << 20;
 
@@ -27,12 +29,14 @@ pub struct Trace {
     pub depth: Option<u64>,
     /// A block's size for each node, as reading one goes through blocks of the tree.
     pub weight: u64,
+    /// Of the directories that were read.
+    pub account: Account,
     pub end: End,
 }
 
 impl Trace {
     pub fn only(end: End) -> Trace {
-        Trace { text: Vec::new(), depth: None, weight: 0, end }
+        Trace { text: Vec::new(), depth: None, weight: 0, account: Account::None, end }
     }
 
     /// The refusal's number for a buffer of `n` bytes, or none where the text is answered.

@@ -1,9 +1,11 @@
-//! A listing rebuilt from the oracle's calls, in document 01's order.
+//! A listing rebuilt from the oracle's calls, and where it reads directory keys otherwise from the host's account of
+//! them, in document 01's order.
 
 use oracle::fs::{Inode, Volume};
 use oracle::nx::Container;
 use oracle::probe;
 
+use crate::calls::directory::{Directories, Rule};
 use crate::calls::expected::Stop;
 use crate::calls::{line, stream};
 use crate::image::Image;
@@ -56,6 +58,10 @@ fn stopped(a: answer::Answer, opened: bool) -> End {
 
 /// Of an image that no more is known of than its part.
 pub fn of_image(image: &Image, volume: u64) -> Trace {
+    told_by(Rule::Kind, image, volume)
+}
+
+pub fn told_by(rule: Rule, image: &Image, volume: u64) -> Trace {
     let part = match &image.part {
         Ok(part) => part,
         Err(number) => return Trace::only(End::Refused(*number)),
@@ -64,33 +70,35 @@ pub fn of_image(image: &Image, volume: u64) -> Trace {
         return Trace::only(End::Open("ring or maps too large"));
     }
     match caught(|| answer::container(part)) {
-        Ok(Ok(c)) => of_container(part, &c, volume),
+        Ok(Ok(c)) => with_room(part, &c, volume, LONGEST, rule),
         Ok(Err(e)) => Trace::only(End::Refused(probe::class(&e))),
         Err(a) => Trace::only(stopped(a, false)),
     }
 }
 
 pub fn of_container(part: &[u8], c: &Container, volume: u64) -> Trace {
-    with_room(part, c, volume, LONGEST)
+    with_room(part, c, volume, LONGEST, Rule::Kind)
 }
 
 /// A text of more than `room` bytes is not followed to its end.
-pub fn with_room(part: &[u8], c: &Container, volume: u64, room: usize) -> Trace {
+pub fn with_room(part: &[u8], c: &Container, volume: u64, room: usize, rule: Rule) -> Trace {
     let v = match caught(|| c.volume(volume as usize)) {
         Ok(Ok(v)) => v,
         Ok(Err(e)) => return Trace::only(End::Refused(probe::class(&e))),
         Err(a) => return Trace::only(stopped(a, true)),
     };
-    let mut walk = Walk { part, c, v: &v, room, text: Vec::new(), depth: None, weight: 0 };
+    let dirs = Directories::of(&v, rule);
+    let mut walk = Walk { part, c, v: &v, dirs: &dirs, room, text: Vec::new(), depth: None, weight: 0 };
     let walked = caught(|| walk.volume());
     let end = walked.map_or_else(|a| stopped(a, true), End::from);
-    Trace { text: walk.text, depth: walk.depth, weight: walk.weight, end }
+    Trace { text: walk.text, depth: walk.depth, weight: walk.weight, account: dirs.account(), end }
 }
 
 struct Walk<'w> {
     part: &'w [u8],
     c: &'w Container,
     v: &'w Volume<'w>,
+    dirs: &'w Directories<'w>,
     room: usize,
     text: Vec<u8>,
     depth: Option<u64>,
@@ -123,7 +131,7 @@ impl Walk<'_> {
         self.depth = self.depth.max(Some(depth));
         self.weight += u64::from(self.c.block_size());
         let attributes = self.v.xattrs(id)?;
-        let entries = self.v.read_dir(id)?;
+        let entries = self.dirs.read(id)?;
         for x in &attributes {
             match stream::data(self.part, self.c, self.v, x)? {
                 stream::Data::Whole(data) => self.line(&line::attribute(x, &data))?,

@@ -228,8 +228,10 @@ impl Volume<'_> {
         Some(())
     }
 
+    /// Keys go by the rule.
     fn rule(&mut self, change: fn(&mut Contents)) -> Option<()> {
         change(&mut self.c);
+        self.c.form_keys();
         Some(())
     }
 }

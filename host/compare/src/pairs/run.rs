@@ -13,6 +13,10 @@ use crate::pairs::{change, layout, mark, planned, questions, Ports};
 
 /// How many changes are tried on each volume.
 const CHANGES: usize = 8;
+/// One stick of so many is made once more with directory keys about the edges of their forms.
+const AT_EDGES: u64 = 4;
+/// Bytes of the shortest key that the Rust reads.
+const SHORTEST: usize = 12;
 
 pub struct Failure {
     pub seed: u64,
@@ -30,29 +34,37 @@ pub struct Run {
 }
 
 /// What went wrong, and both images.
-type Checked<T> = Result<T, (String, [Vec<u8>; 2])>;
+type Wrong = (String, [Vec<u8>; 2]);
+type Checked<T> = Result<T, Wrong>;
 
 impl Run {
     /// Over `count` sticks. Stops at the first failure.
     pub fn over(seed: u64, count: u64, ports: Ports) -> Run {
         let mut run = Run::default();
         for stick in 0..count {
-            let first = Stick::from_seed(stick_seed(seed, stick));
-            if !first.plan.opens() {
+            let drawn = Stick::from_seed(stick_seed(seed, stick));
+            if !drawn.plan.opens() {
                 continue;
             }
-            let regular: Vec<usize> =
-                (0..first.plan.volumes.len()).filter(|&i| first.plan.volumes[i].is_regular()).collect();
-            for volume in regular {
-                let random = Random::new(first.plan.seed ^ volume as u64);
-                let mut trial = Trial { ports, first: &first, volume, random, tally: &mut run.tally };
-                if let Err((words, images)) = trial.volume() {
-                    run.failure = Some(Failure { seed, stick, volume, words, images });
-                    return run;
-                }
+            let at_edges = stick.is_multiple_of(AT_EDGES).then(|| make(drawn.plan.at_edges()));
+            let tried = [&drawn].into_iter().chain(&at_edges).try_for_each(|first| run.stick(first, ports));
+            if let Err((volume, (words, images))) = tried {
+                run.failure = Some(Failure { seed, stick, volume, words, images });
+                return run;
             }
         }
         run
+    }
+
+    /// Each regular volume; an error has its place.
+    fn stick(&mut self, first: &Stick, ports: Ports) -> Result<(), (usize, Wrong)> {
+        let volumes = first.plan.volumes.iter().enumerate();
+        for (volume, _) in volumes.filter(|(_, v)| v.is_regular()) {
+            let random = Random::new(first.plan.seed ^ volume as u64);
+            let mut trial = Trial { ports, first, volume, random, tally: &mut self.tally };
+            trial.volume().map_err(|wrong| (volume, wrong))?;
+        }
+        Ok(())
     }
 
     /// Prints the failure, if there was one, and writes its images to files in `folder`.
@@ -108,6 +120,8 @@ impl<'a> Trial<'a> {
         let said: Result<Vec<Said>, String> = calls.iter().map(|call| pair.same_call(call)).collect();
         let said = said.map_err(told)?;
         self.tally.alike += 1;
+        let mut entries = self.contents().files.iter().flat_map(|f| &f.entries);
+        self.tally.short += u64::from(entries.any(|e| e.key.length(&e.name) < SHORTEST));
         self.tally.calls += 1 + calls.len() as u64;
         self.tally.layout(&layout::differences(self.first, &second, self.volume));
         self.tally.answer("list", listed.n);

@@ -9,6 +9,8 @@ use crate::pairs::{change, layout, mark};
 pub struct Tally {
     /// Pairs of the same contents.
     pub alike: u64,
+    /// Those with a directory key that the Rust finds too short.
+    pub short: u64,
     /// Pairs with one thing changed.
     pub changed: u64,
     /// Changes that the listing of the plan does not show.
@@ -68,7 +70,8 @@ impl Tally {
         let changes = change::names().filter(|k| !self.changes.contains_key(k)).map(String::from);
         let marks = mark::NAMES.into_iter().filter(|k| !self.marks.contains_key(k)).map(|k| format!("{k} damaged"));
         let answers = WANTED.into_iter().map(String::from).filter(|k| !self.answers.contains_key(k));
-        layouts.chain(changes).chain(marks).chain(answers).collect()
+        let short = (self.short == 0).then(|| "keys of under 12 bytes".to_string());
+        layouts.chain(changes).chain(marks).chain(answers).chain(short).collect()
     }
 }
 
@@ -79,6 +82,7 @@ fn counts<K: fmt::Display>(map: &BTreeMap<K, u64>) -> String {
 impl fmt::Display for Tally {
     fn fmt(&self, f: &mut fmt::Formatter) -> fmt::Result {
         writeln!(f, "{} pairs of the same contents, which differ in: {}", self.alike, counts(&self.layouts))?;
+        writeln!(f, "{} of them have directory keys of under 12 bytes", self.short)?;
         writeln!(f, "{} answers were the same: {}", self.calls, counts(&self.answers))?;
         writeln!(f, "{} pairs with one thing changed list otherwise: {}", self.changed, counts(&self.changes))?;
         writeln!(f, "{} changes that don't show were left out", self.hidden)?;

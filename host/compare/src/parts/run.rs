@@ -5,7 +5,7 @@ use std::sync::Arc;
 
 use sticks::gpt::{draw, expected_part, Drawn, Kind};
 use sticks::random::Random;
-use sticks::Stick;
+use sticks::{make, Stick};
 
 use crate::calls::met::Met;
 use crate::calls::{self, vast};
@@ -23,6 +23,8 @@ use crate::parts::Ports;
 const LARGEST: usize = 1 << 18;
 /// One image of so many has all calls made on it, the others one of each kind.
 const THOROUGH: u64 = 4;
+/// One stick of so many is made once more with directory keys about the edges of their forms.
+const AT_EDGES: u64 = 8;
 
 pub struct Failure {
     pub seed: u64,
@@ -77,16 +79,31 @@ impl Run {
         for place in 0..count {
             let mut random = Random::new(stick_seed(seed, place));
             let stick = small(&mut random);
-            let Drawn { image, part, kinds } = tabled(&stick, &mut random);
-            let image = Image::with(Arc::new(image), part);
-            run.tally.image(&part, &kinds);
-            let mut trial = Trial { image: &image, ports, random, tally: &mut run.tally };
-            if let Err(words) = trial.all(&part, &stick) {
-                run.failure = Some(Failure { seed, place, kinds, words, image: image.whole });
-                return run;
+            let at_edges = place.is_multiple_of(AT_EDGES).then(|| make(stick.plan.at_edges()));
+            for stick in [&stick].into_iter().chain(&at_edges) {
+                run.failure = run.image((seed, place), stick, random.clone(), ports);
+                if run.failure.is_some() {
+                    return run;
+                }
             }
         }
         run
+    }
+
+    /// The stick in a table.
+    fn image(
+        &mut self,
+        (seed, place): (u64, u64),
+        stick: &Stick,
+        mut random: Random,
+        ports: Option<Ports>,
+    ) -> Option<Failure> {
+        let Drawn { image, part, kinds } = tabled(stick, &mut random);
+        let image = Image::with(Arc::new(image), part);
+        self.tally.image(&part, &kinds);
+        let mut trial = Trial { image: &image, ports, random, tally: &mut self.tally };
+        let words = trial.all(&part, stick).err()?;
+        Some(Failure { seed, place, kinds, words, image: image.whole })
     }
 
     /// Prints the failure, if there was one, and writes its image to a file in `folder`.

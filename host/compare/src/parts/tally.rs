@@ -5,6 +5,7 @@ use std::fmt;
 
 use sticks::gpt::{kinds, Kind};
 
+use crate::calls::directory::Account;
 use crate::{calls, list, opening};
 
 /// Of containers in a part.
@@ -60,7 +61,15 @@ impl Tally {
         };
         let calls = calls::call::NAMES.into_iter().filter(lacks).map(String::from);
         let listed = self.list.answered > 0 && [4, 11, 12].iter().all(|n| self.list.refused.contains_key(n));
-        calls.chain((!listed).then(|| "list".to_string())).collect()
+        calls.chain((!listed).then(|| "list".to_string())).chain(self.missing_accounts()).collect()
+    }
+
+    /// Some calls are to read directories by the reference, answered and refused.
+    fn missing_accounts(&self) -> Vec<String> {
+        let seen = |answered: bool| self.calls.accounts.keys().any(|k| (k.0, k.2) == (Account::Reference, answered));
+        let kinds = [(true, "answered"), (false, "refused")];
+        let lacks = kinds.into_iter().filter(|(answered, _)| !seen(*answered));
+        lacks.map(|(_, word)| format!("directory keys by the reference, {word}")).collect()
     }
 }
 

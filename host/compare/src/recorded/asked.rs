@@ -3,6 +3,7 @@
 use std::fmt;
 
 use crate::calls::call::Call;
+use crate::calls::directory::{Account, Rule};
 use crate::calls::expected::{self, Answer};
 use crate::image::Image;
 use crate::list::trace::End;
@@ -61,16 +62,29 @@ fn within(bytes: Vec<u8>, room: usize) -> Told {
     }
 }
 
-/// None where neither the oracle nor document 01 tells.
+/// None where neither the oracle nor the papers tell.
 pub fn told(image: &Image, q: &Question) -> Option<Told> {
+    told_by(Rule::Kind, image, q)
+}
+
+pub fn told_by(rule: Rule, image: &Image, q: &Question) -> Option<Told> {
     match &q.asked {
         Asked::Open => open(image, q.room),
-        Asked::Call(call) => match expected::of_image(image, q.volume, call).answer {
+        Asked::Call(call) => match expected::told_by(rule, image, q.volume, call).answer {
             Answer::Bytes(bytes) => Some(within(bytes, q.room)),
             Answer::Refused(n) => Some(Told::Refused(n)),
             Answer::Any | Answer::Panic(_) => None,
         },
-        Asked::List => list(image, q.volume, q.room),
+        Asked::List => list(rule, image, q.volume, q.room),
+    }
+}
+
+/// Of the directories that the call reads.
+pub fn account(rule: Rule, image: &Image, q: &Question) -> Account {
+    match &q.asked {
+        Asked::Open => Account::None,
+        Asked::Call(call) => expected::told_by(rule, image, q.volume, call).account,
+        Asked::List => walk::told_by(rule, image, q.volume).account,
     }
 }
 
@@ -85,8 +99,8 @@ fn open(image: &Image, room: usize) -> Option<Told> {
     }
 }
 
-fn list(image: &Image, volume: u64, room: usize) -> Option<Told> {
-    let trace = walk::of_image(image, volume);
+fn list(rule: Rule, image: &Image, volume: u64, room: usize) -> Option<Told> {
+    let trace = walk::told_by(rule, image, volume);
     match (trace.refusal(room), trace.end) {
         (Some(n), _) => Some(Told::Refused(n)),
         (None, End::Whole) => Some(Told::Bytes(trace.text)),

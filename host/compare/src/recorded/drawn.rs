@@ -4,50 +4,70 @@ use std::collections::BTreeMap;
 
 use sticks::contents::LINK_ATTRIBUTE;
 use sticks::random::Random;
-use sticks::Stick;
+use sticks::{make, Plan, Stick};
 
 use crate::calls::call::Call;
+use crate::calls::directory::{Account, Directories, Rule};
 use crate::calls::lists::Lists;
 use crate::calls::{draw, expected, run};
 use crate::image::Image;
 use crate::opening;
 use crate::opening::answer::{self, caught};
 use crate::opening::run::stick_seed;
-use crate::recorded::asked::{told, Asked, Question, Told};
+use crate::recorded::asked::{account, told, told_by, Asked, Question, Told};
 use crate::recorded::file::{self, File};
 
 /// Of an image's bytes, so many at most are not zeros.
 const FULLEST: usize = 9_000;
 /// Of the buffer that a call is first tried with.
 const LONGEST: usize = 65_536;
-/// So many calls of a kind are kept.
-const OF_A_KIND: usize = 6;
 /// A stick with fewer calls to keep is left out.
 const AT_LEAST: usize = 5;
 const STICKS: u64 = 1500;
 /// Of a superblock's volumes, no more are asked about.
 const VOLUMES: u64 = 2;
 
-type Spoil = fn(&[u8], u64) -> Vec<u8>;
+/// Sticks of one kind.
+pub struct Group {
+    title: &'static str,
+    plan: fn(u64) -> Plan,
+    spoil: fn(&[u8], u64) -> Vec<u8>,
+    /// Calls are drawn and kept by what this rule answers.
+    rule: Rule,
+    /// So many calls of a kind are kept.
+    of_a_kind: usize,
+}
 
-const GROUPS: [(&str, Spoil); 3] = [
-    ("drawn sticks", |image, _| image.to_vec()),
-    ("drawn sticks, what opening reads damaged", |image, seed| opening::run::damaged(image, seed, 1)),
-    ("drawn sticks, what their trees hold damaged", |image, seed| run::damaged(image, seed, 1)),
+/// Drawn and kept by the Rust's answers, so that the records stay as they were before request 03.
+pub const MIXED: [Group; 3] = [
+    mixed("drawn sticks", |image, _| image.to_vec()),
+    mixed("drawn sticks, what opening reads damaged", |image, seed| opening::run::damaged(image, seed, 1)),
+    mixed("drawn sticks, what their trees hold damaged", |image, seed| run::damaged(image, seed, 1)),
 ];
 
-pub fn write(seed: u64, file: &mut File) {
-    for (title, spoil) in GROUPS {
-        file.title(title);
-        let mut kept = Kept::default();
+pub const AT_EDGES: [Group; 1] = [Group {
+    title: "drawn sticks, directory keys about the edges of their forms",
+    plan: |seed| Plan::draw(seed).at_edges(),
+    spoil: |image, _| image.to_vec(),
+    rule: Rule::Kind,
+    of_a_kind: 4,
+}];
+
+const fn mixed(title: &'static str, spoil: fn(&[u8], u64) -> Vec<u8>) -> Group {
+    Group { title, plan: Plan::mixed, spoil, rule: Rule::Length, of_a_kind: 6 }
+}
+
+pub fn write(seed: u64, groups: &[Group], file: &mut File) {
+    for group in groups {
+        file.title(group.title);
+        let mut kept = Kept { most: group.of_a_kind, ..Kept::default() };
         for i in 0..STICKS {
-            let stick = Stick::from_seed(stick_seed(seed, i));
-            let image = spoil(&stick.image, stick.plan.seed);
+            let stick = make((group.plan)(stick_seed(seed, i)));
+            let image = (group.spoil)(&stick.image, stick.plan.seed);
             if image.len() <= file::LONGEST && image.iter().filter(|&&b| b != 0).count() <= FULLEST {
-                kept.offer(
-                    Drawing { image: Image::of(image), random: Random::new(stick.plan.seed) }.questions(&stick),
-                    file,
-                );
+                let random = Random::new(stick.plan.seed);
+                let drawing = Drawing { image: Image::of(image), random, rule: group.rule };
+                kept.offer(drawing.questions(&stick), file);
             }
         }
     }
@@ -55,6 +75,8 @@ pub fn write(seed: u64, file: &mut File) {
 
 #[derive(Default)]
 struct Kept {
+    /// So many of a kind at most.
+    most: usize,
     /// How many there are of each call and kind of answer.
     kinds: BTreeMap<(&'static str, String), usize>,
 }
@@ -72,7 +94,7 @@ impl Kept {
         let mut rare = |a: &Asking| {
             let n = kinds.entry((a.question.asked.name(), a.kind.clone())).or_default();
             *n += 1;
-            *n <= OF_A_KIND
+            *n <= self.most
         };
         let keep: Vec<Asking> = list.into_iter().filter(|a| rare(a)).collect();
         if keep.len() < AT_LEAST {
@@ -89,6 +111,7 @@ impl Kept {
 struct Drawing {
     image: Image,
     random: Random,
+    rule: Rule,
 }
 
 impl Drawing {
@@ -121,8 +144,9 @@ impl Drawing {
         calls.extend(links.map(|f| Call::Link { id: f.inode.id }));
         if let Some((_, c)) = answer::opened(&self.image) {
             if let Ok(Ok(v)) = caught(|| c.volume(volume as usize)) {
+                let dirs = Directories::of(&v, self.rule);
                 for id in draw::ids(&plan.contents, &mut self.random) {
-                    let lists = Lists::of(&v, id);
+                    let lists = Lists::of(&dirs, id);
                     calls.extend(draw::on(&lists, id, c.block_size().into(), &mut self.random));
                 }
             }
@@ -136,7 +160,7 @@ impl Drawing {
     /// With a buffer that is long enough, fits, or is too short.
     fn ask(&mut self, volume: u64, asked: Asked, out: &mut Vec<Asking>) {
         let mut question = Question { volume, asked, room: LONGEST };
-        question.room = match (&question.asked, told(&self.image, &question)) {
+        question.room = match (&question.asked, told_by(self.rule, &self.image, &question)) {
             (Asked::Call(call), _) if call.room().is_some_and(|n| n > LONGEST) => return,
             (Asked::Call(call), _) if call.room().is_some() => call.room().unwrap_or_default(),
             (_, Some(Told::Bytes(b))) => {
@@ -146,16 +170,23 @@ impl Drawing {
             _ => self.random.pick(&[0, 40, 300, 4000]),
         };
         question.room = question.room.min(LONGEST);
+        let Some(by_rule) = told_by(self.rule, &self.image, &question) else { return };
+        let Some(kind) = self.kind(&question, &by_rule) else { return };
         let Some(told) = told(&self.image, &question) else { return };
-        let kind = self.kind(&question, &told);
         out.push(Asking { question, told, kind });
     }
 
-    fn kind(&self, q: &Question, told: &Told) -> String {
-        match (told, &q.asked) {
+    /// None for what is not to be kept: by the volume's kind, calls that read directories alone are.
+    fn kind(&self, q: &Question, told: &Told) -> Option<String> {
+        let kind = match (told, &q.asked) {
             (Told::Refused(n), _) => format!("refused with {n}"),
-            (_, Asked::Call(call)) => expected::of_image(&self.image, q.volume, call).kind.to_string(),
+            (_, Asked::Call(call)) => expected::told_by(self.rule, &self.image, q.volume, call).kind.to_string(),
             _ => "answered".into(),
+        };
+        match account(self.rule, &self.image, q) {
+            _ if self.rule == Rule::Length => Some(kind),
+            Account::None => None,
+            account => Some(format!("{kind} by {account}")),
         }
     }
 }

@@ -1,6 +1,6 @@
 //! A file of calls on sticks with their answers, for replay without any Rust (`crates/cases`): document 01's cases, a
-//! sample of calls on drawn sticks, and request 02's cases. An answer is the oracle's, or the papers' where the oracle
-//! can't tell; never the port's.
+//! sample of calls on drawn sticks, and the cases of requests 02 and 03. An answer is the oracle's, or the papers' where
+//! the oracle can't tell; never the port's.
 
 pub mod asked;
 pub mod drawn;
@@ -12,8 +12,10 @@ pub mod stated;
 pub fn recorded(seed: u64) -> Result<Vec<u8>, String> {
     let mut file = file::File::default();
     stated::write(stated::groups(), &mut file)?;
-    drawn::write(seed, &mut file);
+    drawn::write(seed, &drawn::MIXED, &mut file);
     // At the end, so that the records before them stay as they were.
     stated::write(stated::of_names(), &mut file)?;
+    stated::write(stated::of_keys(), &mut file)?;
+    drawn::write(seed, &drawn::AT_EDGES, &mut file);
     Ok(file.finish())
 }

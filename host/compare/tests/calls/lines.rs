@@ -1,7 +1,8 @@
 //! The lines of document 01's notation.
 
 use compare::calls::call::Call;
-use compare::calls::expected::Kind;
+use compare::calls::directory::Account;
+use compare::calls::expected::{Answer, Expected, Kind};
 use compare::calls::line::{attribute, entry, extent, hex, kind, node};
 use compare::calls::tally::Tally;
 use oracle::fs::{DirEntry, Dstream, Extent, FileKind, Inode, Xattr, XattrData};
@@ -55,6 +56,25 @@ fn entries_attributes_and_extents() {
     let e = Extent { logical: 1, len: 2, phys_block: 0 };
     assert_eq!(extent(&e), "(extent 1 2 0)\n");
     assert_eq!(hex(b"\x0f\xf0"), "x0ff0");
+}
+
+#[test]
+fn a_tally_counts_by_account() {
+    let mut t = Tally::default();
+    let call = Call::Entry { id: 2, place: 0 };
+    let want = Expected::new(Answer::Refused(2), Kind::Refused(2));
+    t.account(&call, &want);
+    assert_eq!(t.accounts.len(), 0);
+    t.account(&call, &Expected { account: Account::Reference, ..want });
+    let missing = t.missing_accounts();
+    assert!(!missing.contains(&"entry refused by the reference".to_string()), "{missing:?}");
+    assert!(missing.contains(&"entry answered by the reference".to_string()), "{missing:?}");
+    assert!(missing.contains(&"entry refused by the Rust".to_string()), "{missing:?}");
+    let shown = t.to_string();
+    assert!(
+        shown.contains("keys by the reference: lookup 0 answered, 0 refused; entry 0 answered, 1 refused; "),
+        "{shown}"
+    );
 }
 
 #[test]

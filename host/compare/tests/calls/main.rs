@@ -3,6 +3,7 @@
 
 #![cfg(oracle)]
 
+mod directories;
 mod lines;
 mod listing;
 mod numbers;

@@ -106,7 +106,7 @@ impl Maker<'_> {
         let mut name = self.name();
         let key = if self.r.chance(1, 10) { self.r.pick(&[Key::Hashed, Key::Plain, Key::Bare]) } else { self.key };
         if key == Key::Plain && name.is_empty() && self.c.regular {
-            name.push(b'e'); // a plain key must have 12 bytes
+            name.push(b'e'); // the Rust wants 12 bytes of a key
         }
         let date = self.r.draw() >> self.r.pick(&[0, 4, 64 - 1]);
         let flags = kind | self.r.pick(&[0, 0, 0x10, 0xfff0]);

@@ -2,6 +2,7 @@
 
 mod data;
 mod files;
+mod keys;
 pub mod large;
 mod names;
 mod otherwise;
@@ -68,6 +69,14 @@ pub struct Plan {
 
 impl Plan {
     pub fn draw(seed: u64) -> Plan {
+        let mut plan = Plan::mixed(seed);
+        plan.volumes.iter_mut().for_each(|v| keys::form(&mut v.contents));
+        plan
+    }
+
+    /// The same stick with directory keys of either form on any volume, as the Rust takes them. What is recorded of
+    /// drawn sticks is of these.
+    pub fn mixed(seed: u64) -> Plan {
         let mut r = Random::new(seed);
         let odd = r.chance(1, 10).then(|| odd(&mut r));
         let small = !matches!(odd, Some(Odd::CutZero(_))) && r.chance(3, 4);
@@ -98,6 +107,14 @@ impl Plan {
         for v in &mut plan.volumes {
             v.contents = patched::contents(&v.contents, self.block_size, &mut r);
         }
+        plan
+    }
+
+    /// The same stick with directory keys about the edges of their forms, and some that are not of the volume's.
+    pub fn at_edges(&self) -> Plan {
+        let mut r = Random::new(self.seed.rotate_left(32));
+        let mut plan = self.clone();
+        plan.volumes.iter_mut().for_each(|v| v.contents = keys::at_edges(&v.contents, &mut r));
         plan
     }
 

@@ -4,6 +4,7 @@ use crate::contents::{
     text, Attribute, Contents, Entry, Extent, Field, File, Inode, Key, Source, Stream, NAME_FIELD, STREAM_FIELD,
 };
 use crate::plan::files::others;
+use crate::plan::keys::{counts, SHORTEST};
 use crate::random::Random;
 use crate::volume::LABEL;
 
@@ -14,19 +15,19 @@ const KIND: u16 = 0xf;
 pub fn contents(c: &Contents, r: &mut Random) -> Contents {
     Contents {
         label: name(&c.label, LABEL, r),
-        files: c.files.iter().map(|f| file(f, r)).collect(),
+        files: c.files.iter().map(|f| file(f, c.has_hashed_keys(), r)).collect(),
         streams: c.streams.iter().map(|s| if c.regular { stream(s, r) } else { s.clone() }).collect(),
         others: if c.regular { others(&c.files, r) } else { c.others.clone() },
         ..c.clone()
     }
 }
 
-fn file(f: &File, r: &mut Random) -> File {
+fn file(f: &File, hashed: bool, r: &mut Random) -> File {
     let attribute = |a: &Attribute, r: &mut Random| Attribute { name: name(&a.name, LONGEST, r), ..a.clone() };
     File {
         inode: inode(&f.inode, r),
         attributes: f.attributes.iter().map(|a| attribute(a, r)).collect(),
-        entries: f.entries.iter().map(|e| entry(e, r)).collect(),
+        entries: f.entries.iter().map(|e| entry(e, hashed, r)).collect(),
     }
 }
 
@@ -43,15 +44,21 @@ fn name(stored: &[u8], most: usize, r: &mut Random) -> Vec<u8> {
     }
 }
 
-fn entry(e: &Entry, r: &mut Random) -> Entry {
+fn entry(e: &Entry, hashed: bool, r: &mut Random) -> Entry {
     let name = name(&e.name, LONGEST, r);
     let key = match e.key {
-        Key::Wrong => Key::Wrong,
-        // A plain key must have 12 bytes.
+        Key::Wrong | Key::Raw => e.key,
         _ if name.is_empty() => Key::Hashed,
         _ => r.pick(&[Key::Hashed, Key::Plain, Key::Bare]),
     };
-    Entry { key, name, flags: e.flags & KIND | r.pick(&[0, 0x10, 0xfff0]), ..e.clone() }
+    let key = key.formed(hashed);
+    let flags = e.flags & KIND | r.pick(&[0, 0x10, 0xfff0]);
+    // A key that the Rust reads is not made too short for it.
+    let short = key.length(&name) < SHORTEST && e.key.length(&e.name) >= SHORTEST;
+    if short || !counts(key, &name) {
+        return Entry { flags, ..e.clone() };
+    }
+    Entry { key, name, flags, ..e.clone() }
 }
 
 /// Fields in another order, among others that say nothing.

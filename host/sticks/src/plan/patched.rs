@@ -1,6 +1,7 @@
 //! The same volumes with names that a lossy reading patches up, or that only look so.
 
-use crate::contents::{text, Attribute, Contents, Data, Entry, Field, Inode, Stream, LINK_ATTRIBUTE, NAME_FIELD};
+use crate::contents::{text, Attribute, Contents, Data, Entry, Field, Inode, Key, Stream, LINK_ATTRIBUTE, NAME_FIELD};
+use crate::plan::keys::SHORTEST;
 use crate::plan::{data, names};
 use crate::random::Random;
 use crate::volume::LABEL;
@@ -44,6 +45,10 @@ fn entries(list: &mut [Entry], r: &mut Random) {
             1 if i > 0 && !text(&list[i - 1].name).is_empty() => text(&list[i - 1].name).into_bytes(),
             _ => names::patched(r),
         };
+        // The Rust reads no shorter key.
+        if list[i].key.length(&list[i].name) < SHORTEST {
+            list[i].key = Key::Plain;
+        }
     }
 }
 

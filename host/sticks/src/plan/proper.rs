@@ -16,9 +16,9 @@ const BLOCK: usize = 4096;
 /// Blocks of an extent.
 const RUN: usize = 3;
 
-/// Names of one line of text each, no two alike in a directory, under hashed keys in their order; inodes with the
-/// fields that a Mac writes, named as the entry that leads to them; extents of whole blocks; no directory entered
-/// twice, nothing compressed, no ghosts.
+/// Names of one line of text each, no two alike in a directory, under hashed keys in their order, on a volume that has
+/// such keys; inodes with the fields that a Mac writes, named as the entry that leads to them; extents of whole blocks;
+/// no directory entered twice, nothing compressed, no ghosts.
 pub fn contents(c: &Contents) -> Contents {
     let mut entered = BTreeSet::from([ROOT]);
     let mut files: Vec<File> = c.files.iter().map(|f| file(f, c.case_insensitive, &mut entered)).collect();
@@ -34,7 +34,10 @@ pub fn contents(c: &Contents) -> Contents {
         f.inode.fields.insert(0, field);
     }
     let streams = sizes(&files).into_iter().map(|(id, size)| stream(id, c.bytes(id, size))).collect();
-    Contents { label: clean(&c.label, 0), files, streams, others: Vec::new(), ..c.clone() }
+    // Where case counts, a Mac makes volumes that are normalization-insensitive.
+    let normalization_insensitive = c.normalization_insensitive || !c.case_insensitive;
+    let label = clean(&c.label, 0);
+    Contents { label, files, streams, others: Vec::new(), normalization_insensitive, ..c.clone() }
 }
 
 fn file(f: &File, insensitive: bool, entered: &mut BTreeSet<u64>) -> File {

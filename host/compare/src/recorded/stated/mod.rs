@@ -1,6 +1,7 @@
-//! Document 01's cases and those of partition tables and patched names, each with what the papers say of it, and small
-//! sticks that show them.
+//! Document 01's cases and those of partition tables, patched names and directory keys, each with what the papers say of
+//! it, and small sticks that show them.
 
+mod keys;
 mod listing;
 mod names;
 mod opening;
@@ -110,6 +111,11 @@ pub fn groups() -> Vec<Group> {
 /// Those of request 02.
 pub fn of_names() -> Vec<Group> {
     names::groups()
+}
+
+/// Those of request 03.
+pub fn of_keys() -> Vec<Group> {
+    keys::groups()
 }
 
 /// An error tells each case that the oracle answers otherwise.

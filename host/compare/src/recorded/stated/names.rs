@@ -144,7 +144,7 @@ fn fields() -> Group {
         (image(c), vec![number(INODE, 0, n), number(INODE, u64::MAX, n)])
     };
     let attributes = root(|f| f.attributes = TABLE.map(|(name, _)| embedded(name, b"\xff")).into());
-    let keys = root(|f| f.entries = [Key::Plain, Key::Bare].map(|key| entry(key, b"a\xff\xfe", FILE)).into());
+    let keys = root(|f| f.entries = [Key::Hashed, Key::Bare].map(|key| entry(key, b"a\xff\xfe", FILE)).into());
     let cut = [&[b'l'; 254][..], b"\xe2\x82"].concat();
     let cases = vec![
         label(b"\xff\xe2\x82", 2),

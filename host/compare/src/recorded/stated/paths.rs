@@ -26,6 +26,13 @@ fn with(entries: &[(&str, u64)]) -> Contents {
     contents(files)
 }
 
+/// The same where case counts.
+fn sensitive(c: Contents) -> Contents {
+    let mut c = Contents { case_insensitive: false, ..c };
+    c.form_keys();
+    c
+}
+
 pub fn groups() -> Vec<Group> {
     vec![roots(), parts(), names(), not_utf8(), wide(), buffers()]
 }
@@ -44,13 +51,12 @@ fn parts() -> Group {
 
 fn names() -> Group {
     let entries = [("AB", 20), ("ab", 21), ("ab", 22), ("x", 23)];
-    let sensitive = Contents { case_insensitive: false, ..with(&entries) };
     let mut exact = looked(&[("ab", 21), ("AB", 20), ("x", 23)]);
     exact.extend(refused(4, &["Ab", "X", "abc", "a"]));
     let by_key = looked(&[("ab", 21), ("AB", 20), ("Ab", 20), ("aB", 20), ("X", 23)]);
     group(
         "names exactly equal, then with an equal key",
-        vec![(image(sensitive), exact), (image(with(&entries)), by_key)],
+        vec![(image(sensitive(with(&entries))), exact), (image(with(&entries)), by_key)],
     )
 }
 
@@ -71,7 +77,6 @@ fn not_utf8() -> Group {
 fn wide() -> Group {
     let entries = [("a", 20), ("é", 21), ("z", 22)];
     let normal = |c: Contents| Contents { case_insensitive: false, normalization_insensitive: true, ..c };
-    let sensitive = |c: Contents| Contents { case_insensitive: false, ..c };
     let mut folded = looked(&[("é", 21), ("A", 20), ("z", 22)]);
     folded.extend(refused(9, &["Z", "É", "q", "日", "é/É"]));
     let mut plain = looked(&[("é", 21), ("a", 20), ("z", 22)]);

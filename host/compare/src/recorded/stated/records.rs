@@ -93,15 +93,15 @@ fn keys() -> Group {
         kind(15),
         kind(0xfff4),
         one(Key::Hashed, "abc", text("x616263")),
-        one(Key::Plain, "abc", text("x616263")),
+        one(Key::Plain, "abc", Refused(2)),
         one(Key::Bare, "abc", text("x616263")),
         one(Key::Wrong, "abc", Refused(2)),
-        one(Key::Plain, "a", text("x61")),
+        one(Key::Plain, "a", Refused(2)),
         one(Key::Plain, "", Refused(2)),
         one(Key::Hashed, "", text("x")),
         one(Key::Bare, "", text("x")),
     ];
-    group("directory keys by their length, and under 12 bytes; kinds", cases)
+    group("directory keys of a case-insensitive volume, and under 12 bytes; kinds", cases)
 }
 
 fn places() -> Group {

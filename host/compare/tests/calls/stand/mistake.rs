@@ -38,8 +38,15 @@ mistakes!(
         EmptyNameAbsent,
         // Directories.
         HashedAlone,
+        HashedByCase,
+        FormsSwapped,
+        ToldByLength,
+        LengthOf11Bits,
         LengthOf16Bits,
-        ShortKeyTaken,
+        LengthAtMost,
+        LengthAtLeast,
+        PlainFrom12,
+        ShortKeyRefused,
         KindOf16Bits,
         EntryAlone,
         // Attributes.

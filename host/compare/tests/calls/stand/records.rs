@@ -68,6 +68,17 @@ fn part(b: &[u8], at: usize, n: usize) -> Answer<&[u8]> {
     b.get(at..at + n).ok_or(2)
 }
 
+/// A directory key as the Rust tells its form.
+fn by_length(key: &[u8]) -> Answer<&[u8]> {
+    let hashed = 12 + (get32(part(key, 8, 4)?, 0) & 0x3ff) as usize;
+    let plain = 10 + usize::from(get16(key, 8));
+    match key.len() {
+        n if n == hashed => Ok(&key[12..]),
+        n if n == plain => Ok(&key[10..]),
+        _ => Err(2),
+    }
+}
+
 impl Inode {
     pub fn is_packed(&self) -> bool {
         self.bsd & 0x20 != 0
@@ -174,17 +185,36 @@ impl Stand<'_> {
         Ok(out)
     }
 
+    fn has_hashed_keys(&self) -> bool {
+        let rule = self.v.name_rule();
+        let norm = rule.normalization_insensitive && !self.has(M::HashedByCase);
+        let hashed = rule.case_insensitive || norm || self.has(M::HashedAlone);
+        hashed != self.has(M::FormsSwapped)
+    }
+
     fn entry_name<'k>(&self, key: &'k [u8]) -> Answer<&'k [u8]> {
-        test(key.len() >= 12 || self.has(M::ShortKeyTaken) && key.len() >= 10, 2)?;
-        let stated = if key.len() >= 12 { get32(key, 8) } else { u32::MAX };
-        let mask = if self.has(M::LengthOf16Bits) { 0xffff } else { 0x3ff };
-        let hashed = key.len() == 12 + (stated & mask) as usize;
-        let plain = key.len() == 10 + usize::from(get16(key, 8)) && !self.has(M::HashedAlone);
-        match (hashed, plain) {
-            (true, _) => Ok(&key[12..]),
-            (false, true) => Ok(&key[10..]),
-            (false, false) => Err(2),
+        if self.has(M::ToldByLength) {
+            return by_length(key);
         }
+        let hashed = self.has_hashed_keys();
+        test(hashed || key.len() >= 12 || !self.has(M::ShortKeyRefused), 2)?;
+        let mask = match self.m {
+            M::LengthOf11Bits => 0x7ff,
+            M::LengthOf16Bits => 0xffff,
+            _ => 0x3ff,
+        };
+        let (start, count) = match hashed {
+            true => (12, get32(part(key, 8, 4)?, 0) & mask),
+            false => (10, get16(part(key, 8, 2)?, 0).into()),
+        };
+        let length = start + count as usize;
+        let well = match self.m {
+            M::LengthAtMost => length <= key.len(),
+            M::LengthAtLeast => length >= key.len(),
+            _ => length == key.len(),
+        };
+        test(well, 2)?;
+        Ok(&key[if self.has(M::PlainFrom12) { key.len().min(12) } else { start }..])
     }
 
     pub fn attributes(&self, id: u64) -> Answer<Vec<Attribute>> {
