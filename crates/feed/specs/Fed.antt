@@ -1,5 +1,5 @@
--- The lossy reading of bytes that come one after the other, up to the first zero byte, or the parts of it that are replaced. Document 01, bytes.rs: "`cstr` stops at the first zero byte
--- or the end and reads lossily".
+-- The lossy reading of bytes that come one after the other, up to the first zero byte, or the parts of it that are replaced. Document 01, bytes.rs:
+-- "`cstr` stops at the first zero byte or the end and reads lossily"; document 02, request 02.
 use Prim.Native.Nat.{ℕ, _<_}
 use mathlib.Core.Path.{_≡_}
 use mathlib.Core.Bool.{Bool}

@@ -4,3 +4,4 @@ pub mod Turns
 pub mod Leaves
 pub mod Elements
 pub mod OnWay
+pub mod EntryKeys

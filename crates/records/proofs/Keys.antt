@@ -1,11 +1,11 @@
 -- Which keys are taken, and that no key has both forms. Document 02, request 03.
-use Prim.Native.Nat.{ℕ, _+_, _*_, _-_, _%_, _≤_, _<_}
-use mathlib.Core.Path.{_≡_, refl, sym, ap, _∙_}
+use Prim.Native.Nat.{ℕ, _+_, _*_, _%_, _≤_}
+use mathlib.Core.Path.{_≡_, refl, sym}
 use mathlib.Core.Bool.{Bool, true, false}
-use mathlib.Core.List.{List}
+use mathlib.Core.List.{List, [], _∷_}
 use native.Mathlib.Omega.{arith}
 use lib.ListN.{length, getD}
-use Rattle.error.specs.Answer.{Answer, got, no, _>>=_, ifEq}
+use Rattle.error.specs.Answer.{Answer, got, no, _>>=_, ifLe, ifEq}
 use Rattle.error.specs.declared.Refusal.the-variants.{Corrupt}
 use Rattle.error.proofs.Laws.{got-is, bound, same, other, at-most, eq-cases, le-cases}
 use Rattle.bytes.specs.Number.{little, numberAt}
@@ -118,3 +118,15 @@ as-before false key s e l =
     let b = plain-means key s .0 e in
     let w = wider key (little 4 key 8) (b .n) (four key l) (b .read) in
     by-plain key (little 4 key 8) (b .n) (w .0) s (four key l) (b .read) (w .1) (b .long) (b .name)
+
+-- "A case-sensitive stick with a one-byte stored name was refused, because the twelve bytes tried first weren't there": its key is read now
+abbrev pub oneByte : List ℕ
+oneByte = 2 ∷ 0 ∷ 0 ∷ 0 ∷ 0 ∷ 0 ∷ 0 ∷ 0x90 ∷ 1 ∷ 0 ∷ 97 ∷ []
+
+pub refused-before : toldByLength oneByte ≡ no Corrupt
+unfolding toldByLength numberAt ifLe
+refused-before = refl
+
+pub read-now : nameIn false oneByte ≡ got (record { start = 10; len = 1 })
+unfolding nameIn plainName numberAt little ifLe ifEq
+read-now = refl

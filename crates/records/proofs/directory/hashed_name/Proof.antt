@@ -1,6 +1,6 @@
 use borrow.Author.Needs.{needs}
 use Rattle.records.specs.Directory.{hashedName}
-use Rattle.records.proofs.Laws.{all, same-to, other-to}
+use Rattle.records.proofs.Laws.{all}
 use Rattle.records.proofs.directory.hashed_name.Statement.{statement}
 use Rattle.records.proofs.directory.hashed_name.Tie as tie
 
@@ -12,8 +12,8 @@ hashed-name-spec =
     (λ c κs. search needs)
     (λ c. search needs)
     (λ c. search needs)
-    (λ c. search (all, same-to, other-to))
+    (λ c. search all)
     (λ c. search needs)
     (λ c. search needs)
-    (λ c. search (all, same-to, other-to))
-    (λ c. search (all, same-to, other-to)))
+    (λ c. search all)
+    (λ c. search all))
