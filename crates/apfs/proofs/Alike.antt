@@ -11,6 +11,7 @@ use Rattle.bytes.specs.Part.{partOf}
 use Rattle.gpt.specs.Part.{onPart}
 use Rattle.volume.specs.Open.{volumeOfImage}
 use Rattle.volume.specs.declared.Volume.{Volume}
+use Rattle.volume.specs.declared.Which.{Which}
 use Rattle.inode_record.specs.declared.inode.Inode.{Inode}
 use Rattle.lists.specs.Lists.{elementAt, inodeOf}
 use Rattle.lines.specs.Shown.{InodeShown, EntryShown, inodeShown}
@@ -84,7 +85,7 @@ module _ (image : List ℕ) (v : Volume) (f : InodeShown) where
 abbrev Knows : Answer View → Type 0
 Knows x = (v : View) (c : List ℕ) (f : InodeShown) → x ≡ got v → chain v c ≡ here f → v.inode f.id ≡ got f
 
-knows-part : (part : List ℕ) (index : ℕ) → Knows (viewOfPart part index)
+knows-part : (part : List ℕ) (index : Which) → Knows (viewOfPart part index)
 unfolding viewOfPart
 knows-part part index v c f e h = of (volumeOfImage part index .answer) e
   where
@@ -94,7 +95,7 @@ knows-part part index v c f e h = of (volumeOfImage part index .answer) e
         ap (λ (x : View). x.inode f.id) (sym q) ∙ known-follow part w f (met (inodeAnswer part w 2)) c (known-inode part w f 2) (ap (λ (x : View). chain x c) q ∙ h)
     of (no w) k = absurd (let z : _≡_ {A = ℕ} 0 1 = cc in omega arith)
 
-knows : (image : List ℕ) (index : ℕ) → Knows (viewAt image index)
+knows : (image : List ℕ) (index : Which) → Knows (viewAt image index)
 knows image index v c f e h = let s = opened-part image index v e in knows-part (partOf image (s .0)) index v c f (s .1 .1) h
 
 -- the same link
@@ -114,8 +115,8 @@ module _ (c : List ℕ) (f : InodeShown) where
   link-same (no d) (no e) k l s h = absurd s
 
 -- the same text, by what is the same of two volumes
-module _ (a b : List ℕ) (i j : ℕ) where
-  by-views : (g : View → Answer (List ℕ)) (k : List ℕ → ℕ → Answer (List ℕ)) → ((p : List ℕ) (n : ℕ) → k p n ≡ (viewOfPart p n >>= g)) → (viewAt a i >>= g) ≡ (viewAt b j >>= g)
+module _ (a b : List ℕ) (i j : Which) where
+  by-views : (g : View → Answer (List ℕ)) (k : List ℕ → Which → Answer (List ℕ)) → ((p : List ℕ) (n : Which) → k p n ≡ (viewOfPart p n >>= g)) → (viewAt a i >>= g) ≡ (viewAt b j >>= g)
       → onPart (λ p. k p i) a ≡ onPart (λ p. k p j) b
   by-views g k h e = on-view a i g (λ p. k p i) (λ p. h p i) ∙ e ∙ sym (on-view b j g (λ p. k p j) (λ p. h p j))
 
@@ -127,7 +128,7 @@ module _ (a b : List ℕ) (i j : ℕ) where
       ∙ sym (on-part b (λ p. lookupOfPart p j path) (λ f. got (nodeLine f [])) (λ p. lookupText p j path) (λ p. lookup-view p j path))
 
 -- where two listings are equal, the calls answer alike
-pub record CallsAlike (a b : List ℕ) (i j : ℕ) : Type 0 where
+pub record CallsAlike (a b : List ℕ) (i j : Which) : Type 0 where
   pub lookups : (path : List ℕ) → onPart (λ p. lookupText p i path) a ≡ onPart (λ p. lookupText p j path) b
   pub reads : (c : List ℕ) (f : InodeShown) → chainOn (viewAt a i) c ≡ here f → (off len : ℕ)
       → onPart (λ p. readText p i f.id off len) a ≡ onPart (λ p. readText p j f.id off len) b
@@ -139,7 +140,7 @@ pub record CallsAlike (a b : List ℕ) (i j : ℕ) : Type 0 where
   pub bytes : (c : List ℕ) (f : InodeShown) → chainOn (viewAt a i) c ≡ here f → (k : ℕ) → onPart (λ p. xattrBytes p i f.id k) a ≡ onPart (λ p. xattrBytes p j f.id k) b
   pub links : (c : List ℕ) (f : InodeShown) → chainOn (viewAt a i) c ≡ here f → onPart (λ p. linkText p i f.id) a ≡ onPart (λ p. linkText p j f.id) b
 
-pub calls-alike : (a b : List ℕ) (i j m n : ℕ) (t : List ℕ) → listingOf a i m ≡ got t → listingOf b j n ≡ got t → CallsAlike a b i j
+pub calls-alike : (a b : List ℕ) (i j : Which) (m n : ℕ) (t : List ℕ) → listingOf a i m ≡ got t → listingOf b j n ≡ got t → CallsAlike a b i j
 calls-alike a b i j m n t p q =
     let s : SameVolumes (viewAt a i) (viewAt b j) = third-demand .listings a b i j m n t t p q .0 refl in
     record {

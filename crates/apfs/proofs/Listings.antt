@@ -13,6 +13,7 @@ use Rattle.error.specs.declared.Refusal.{Refusal}
 use Rattle.error.proofs.Laws.{le-cases, bound}
 use Rattle.text.specs.declared.Position.{Position}
 use Rattle.text.specs.declared.Position.the-variants.{At, No}
+use Rattle.volume.specs.declared.Which.{Which}
 use Rattle.demand.specs.Trace.{End, done, stop, Trace, textOr, within}
 use Rattle.demand.specs.Listing.{trace, listing}
 use Rattle.demand.specs.Demand.{viewOfPart, listingOfPart}
@@ -29,11 +30,11 @@ within-room room t s = le-cases (λ (a : Answer (List ℕ)). a ≡ got s → len
     of done h e = let q : s ≡ t .text = cc in rw q h
     of (stop w) h e = absurd (let z : _≡_ {A = ℕ} 0 1 = cc in omega arith)
 
-listing-room : (image : List ℕ) (index room : ℕ) (s : List ℕ) → listingOfPart image index room ≡ got s → length s ≤ room
+listing-room : (image : List ℕ) (index : Which) (room : ℕ) (s : List ℕ) → listingOfPart image index room ≡ got s → length s ≤ room
 unfolding listingOfPart listing
 listing-room image index room s e = let a = bound (viewOfPart image index) (λ w. listing w room) s e in within-room room (trace (a .0)) s (a .1 .1)
 
-module _ (image : List ℕ) (index : ℕ) (out x : List ℕ) (r : Position) (p : filledAt r x ≡ listedOf (listingOfPart image index (length out)) out) (s : length out * 1 < 2 ^ 63) where
+module _ (image : List ℕ) (index : Which) (out x : List ℕ) (r : Position) (p : filledAt r x ≡ listedOf (listingOfPart image index (length out)) out) (s : length out * 1 < 2 ^ 63) where
   pub list-within : Within r
   list-within = of r (listingOfPart image index (length out)) (listing-room image index (length out)) (ap (λ (l : Filled). l .answer) p)
     where

@@ -12,6 +12,7 @@ use Rattle.utf8.specs.Text.{lossy, Reading, reading, sameBytes}
 use Rattle.lookup.specs.Counted.{Counted, after, from, onto}
 use Rattle.volume.specs.Open.{volumeOfImage}
 use Rattle.volume.specs.declared.Volume.{Volume}
+use Rattle.volume.specs.declared.Which.{Which}
 use Rattle.records.specs.Attribute.{attributeName}
 use Rattle.records.specs.declared.directory.Entry.{Entry}
 use Rattle.records.specs.declared.attribute.Attribute.{Attribute}
@@ -202,7 +203,7 @@ module _ (image : List ℕ) (v : Volume) where
       of n (no e) = refl
 
 -- each call, by the view
-module _ (image : List ℕ) (index : ℕ) where
+module _ (image : List ℕ) (index : Which) where
   on-view : (f : Volume → ℕ → Counted (List ℕ)) (g : View → Answer (List ℕ)) → ((v : Volume) (s : ℕ) → f v s .answer ≡ g (viewOf image v))
       → onVolume f image index ≡ (viewOfPart image index >>= g)
   unfolding viewOfPart

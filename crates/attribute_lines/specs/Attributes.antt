@@ -6,6 +6,7 @@ use mathlib.Core.Option.{Option, none, some}
 use Rattle.error.specs.Answer.{Answer, got}
 use Rattle.lookup.specs.Counted.{Counted, after, onto}
 use Rattle.volume.specs.declared.Volume.{Volume}
+use Rattle.volume.specs.declared.Which.{Which}
 use Rattle.records.specs.declared.attribute.Attribute.{Attribute}
 use Rattle.records.specs.declared.attribute.StreamData.{StreamData}
 use Rattle.lists.specs.Lists.{placed, attributesOf}
@@ -30,5 +31,5 @@ unfoldable pub attributeOn : List ℕ → Volume → ℕ → ℕ → ℕ → Cou
 attributeOn image v id place s = onto (placed place (attributesOf image v id s)) λ o t. attributeShow image v o t
 
 -- what `apfs_xattr` answers
-unfoldable pub attributeText : List ℕ → ℕ → ℕ → ℕ → Answer (List ℕ)
-attributeText image index id place = onVolume (λ v s. attributeOn image v id place s) image index
+unfoldable pub attributeText : List ℕ → Which → ℕ → ℕ → Answer (List ℕ)
+attributeText image w id place = onVolume (λ v s. attributeOn image v id place s) image w

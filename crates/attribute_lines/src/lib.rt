@@ -13,6 +13,7 @@ use streams::settle_stream;
 use text::Position;
 use volume::Volume;
 use volume::VolumeOpening;
+use volume::Which;
 use volume::open_at;
 ghost use mathlib.Core.Path.{_≡_};
 ghost use mathlib.Core.List.{[]};
@@ -102,10 +103,10 @@ fn attribute_on(
     }
 }
 
-pub fn attribute_text(image: &[u8], index: u64, id: u64, place: u64, out: &mut [u8]) -> Position
-    ensures { λ r. ⌜ filledAt r (now (out .exit)) ≡ filledBy (attributeText (now (image .entry)) index id place) (now (out .entry)) ⌝ }
+pub fn attribute_text(image: &[u8], which: Which, id: u64, place: u64, out: &mut [u8]) -> Position
+    ensures { λ r. ⌜ filledAt r (now (out .exit)) ≡ filledBy (attributeText (now (image .entry)) which id place) (now (out .entry)) ⌝ }
 {
-    let opened = open_at(image, index);
+    let opened = open_at(image, which);
     let volume = opened.volume;
     match volume {
         VolumeOpening::Got(v) => attribute_on(image, v, id, place, opened.nodes, out),

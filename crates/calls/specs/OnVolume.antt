@@ -5,7 +5,8 @@ use Rattle.error.specs.Answer.{Answer}
 use Rattle.lookup.specs.Counted.{Counted, onto}
 use Rattle.volume.specs.Open.{volumeOfImage}
 use Rattle.volume.specs.declared.Volume.{Volume}
+use Rattle.volume.specs.declared.Which.{Which}
 
--- the volume at an index of an image, and what f makes of it; node counts are not told
-abbrev pub onVolume : (Volume → ℕ → Counted (List ℕ)) → List ℕ → ℕ → Answer (List ℕ)
-onVolume f image index = onto (volumeOfImage image index) f .answer
+-- a volume of an image, and what f makes of it; node counts are not told
+abbrev pub onVolume : (Volume → ℕ → Counted (List ℕ)) → List ℕ → Which → Answer (List ℕ)
+onVolume f image w = onto (volumeOfImage image w) f .answer

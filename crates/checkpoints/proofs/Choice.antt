@@ -68,24 +68,31 @@ module _ (r : Reader) (image : List ℕ) (start ring : ℕ) where
   unfolding latestIn
   latest-start = let q : ring - ring ≡ 0 = omega arith in rw q
 
-  pub latest-turn : (i : ℕ) (best : Option Superblock) (z : Option Superblock) → 0 < i → i ≤ ring → best ≡ latestIn r image start ring (ring - i) i →
-      z ≡ prefer (acceptedAt r image ring (blockPlace r start (i - 1))) best → z ≡ latestIn r image start ring (ring - (i - 1)) (i - 1)
+  pub latest-turn : (i : ℕ) (s : Span) (best : Option Superblock) (z : Option Superblock) → 0 < i → i ≤ ring → s ≡ blockPlace r start (i - 1) → best ≡ latestIn r image start ring (ring - i) i →
+      z ≡ prefer (acceptedAt r image ring s) best → z ≡ latestIn r image start ring (ring - (i - 1)) (i - 1)
   unfolding latestIn
-  latest-turn i best z h k p e =
+  latest-turn i s best z h k l p e =
       let q : ring - (i - 1) ≡ suc (ring - i) = omega arith in
       let t : i - 1 + 1 ≡ i = omega arith in
-      rw (q, t, ← p) e
+      rw (q, t, ← p, ← l) e
 
   pub latest-done : (i : ℕ) (best : Option Superblock) → i ≤ 0 → best ≡ latestIn r image start ring (ring - i) i → best ≡ latestIn r image start ring ring 0
   latest-done i best h p = let q : i ≡ 0 = omega arith in rw (q, sub-zero) at p
 
 -- a block of the area lies before its end
-module _ (start ring size i : ℕ) (h : start + ring * size < 2 ^ 64) (k : i ≤ ring) (z : 0 < i) where
-  scaled : (i - 1) * size ≤ ring * size
+module _ (start ring size i : ℕ) (h : start + ring * size < 2 ^ 64) (k : i < ring) where
+  scaled : i * size ≤ ring * size
   scaled = mul-le-mul-right size (omega arith)
 
-  pub block-scaled : Fits w64 ((i - 1) * size)
+  pub block-scaled : Fits w64 (i * size)
   block-scaled = record { fits = omega (arith, scaled) }
 
-  pub block-starts : Fits w64 (start + (i - 1) * size)
+  pub block-starts : Fits w64 (start + i * size)
   block-starts = record { fits = omega (arith, scaled) }
+
+-- what was answered of a place s that is u
+module _ (r : Reader) (image : List ℕ) (ring : ℕ) (s u : Span) where
+  pub at-place : (z : Option Superblock) → s ≡ u → z ≡ acceptedAt r image ring s → z ≡ acceptedAt r image ring u
+  at-place z e h = rw e at h
+
+pub ruleset blocks = (needs, block-scaled, block-starts, at-place)

@@ -36,7 +36,7 @@ module _ (r : Reader) (image : List ℕ) (start ring : ℕ) where
   -- the block first, and what was taken of those after it
   module _ (n k : ℕ) where
     -- an accepted block of suc n is the first or one of the n after it
-    split : {P : Type 0} (j : ℕ) (o : Superblock) → k ≤ j → j < k + suc n → Accepted j o → (Accepted k o → j ≡ k → P) → (k + 1 ≤ j → j < k + 1 + n → P) → P
+    pub split : {P : Type 0} (j : ℕ) (o : Superblock) → k ≤ j → j < k + suc n → Accepted j o → (Accepted k o → j ≡ k → P) → (k + 1 ≤ j → j < k + 1 + n → P) → P
     split {P} j o h t a f g = of (ℕ-discrete j k)
       where
         of : Dec (j ≡ k) → P

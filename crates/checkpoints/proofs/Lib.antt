@@ -4,4 +4,6 @@ pub mod Ring
 pub mod Candidate
 pub mod Choice
 pub mod Latest
+pub mod Numbered
+pub mod NumberTurns
 pub mod MapList

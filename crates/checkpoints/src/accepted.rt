@@ -8,8 +8,9 @@ use geometry::has_magic;
 use obj::Parsed;
 use obj::Reader;
 ghost use mathlib.Core.Path.{_≡_};
+ghost use Prim.Native.Nat.{_+_, _*_, _^_, _<_};
 ghost use Rattle.checkpoints.specs.Superblock.{foundTold};
-ghost use Rattle.checkpoints.specs.Checkpoint.{markedOf, candidateOf, acceptedAt};
+ghost use Rattle.checkpoints.specs.Checkpoint.{markedOf, candidateOf, acceptedAt, blockPlace};
 
 // The superblock of a block whose kind and magic say so, if its checksum is valid.
 fn marked(b: &[u8], place: Span) -> Found
@@ -52,4 +53,23 @@ pub fn accepted_at(reader: Reader, image: &[u8], place: Span, ring: u32) -> Foun
         }
         Found::Nothing => Found::Nothing,
     }
+}
+
+// Where the i-th block of a ring lies that starts at a byte of the image.
+pub fn block_place(reader: Reader, start: u64, ring: u32, i: u32) -> Span
+    requires { ⌜ (start + ring * (reader .«block_size») < 2 ^ 64) × (i < ring) ⌝ }
+    ensures { λ r. ⌜ r ≡ blockPlace reader start i ⌝ }
+{
+    let size = reader.block_size as usize;
+    Span {
+        start: start as usize + (i as usize) * size,
+        len: size,
+    }
+}
+
+pub fn accepted_block(reader: Reader, image: &[u8], start: u64, ring: u32, i: u32) -> Found
+    requires { ⌜ (start + ring * (reader .«block_size») < 2 ^ 64) × (i < ring) ⌝ }
+    ensures { λ r. ⌜ foundTold r ≡ acceptedAt reader (now (image .entry)) ring (blockPlace reader start i) ⌝ }
+{
+    accepted_at(reader, image, block_place(reader, start, ring, i), ring)
 }

@@ -1,5 +1,6 @@
 // The latest checkpoint of a container.
 use crate::accepted::accepted_at;
+use crate::accepted::block_place;
 use crate::superblock::Found;
 use crate::superblock::Superblocked;
 use bytes::Number;
@@ -56,16 +57,17 @@ fn latest_checkpoint(reader: Reader, image: &[u8], start: u64, ring: u32) -> Fou
     requires { ⌜ start + ring * (reader .«block_size») < 2 ^ 64 ⌝ }
     ensures { λ r. ⌜ foundTold r ≡ latestIn reader (now (image .entry)) start ring ring 0 ⌝ }
 {
-    let size = reader.block_size as usize;
     let mut best = Found::Nothing;
     let mut i = ring;
     while 0 < i {
         i -= 1;
-        let place = Span {
-            start: start as usize + (i as usize) * size,
-            len: size,
-        };
-        best = consider(reader, image, place, ring, best);
+        best = consider(
+            reader,
+            image,
+            block_place(reader, start, ring, i),
+            ring,
+            best,
+        );
     }
     best
 }

@@ -12,6 +12,7 @@ use Rattle.text.specs.Words.{ascii, digits}
 use Rattle.text.specs.declared.Position.the-variants.{No}
 use Rattle.text.proofs.Digits.{digits-append}
 use Rattle.text.proofs.Writing.{then}
+use Rattle.checkpoints.specs.declared.by_number.Choice.{Choice}
 use Rattle.nx.specs.Open.{openedTold, openAt}
 use Rattle.nx.specs.Slots.{slotOf, slotCount, slotsIn, volumesOf}
 use Rattle.nx.specs.declared.container.Container.{Container}
@@ -73,12 +74,12 @@ module _ (room : ℕ) (image : List ℕ) (sb : Superblock) where
           ∙ (rw e (ap (λ (l : List ℕ). puts room (numberWords l []) o) (other _ _ _ _ _ k refl) ∙ (rw q at p)))
 
 -- opening, by what it answered
-module _ (image b : List ℕ) (r : Opened) (p : openedTold r ≡ openAt image) where
-  pub open-got : (c : Container) (z : Filled) → r .container ≡ Opening.Got c → z ≡ filled (containerText image c []) b → z ≡ filledBy (openText image) b
+module _ (choice : Choice) (image b : List ℕ) (r : Opened) (p : openedTold r ≡ openAt choice image) where
+  pub open-got : (c : Container) (z : Filled) → r .container ≡ Opening.Got c → z ≡ filled (containerText image c []) b → z ≡ filledBy (openText choice image) b
   unfolding openText
   open-got c z q h = rw (← p, q) h
 
-  pub open-refused : (e : Refusal) → r .container ≡ Opening.No e → filledAt (No e) b ≡ filledBy (openText image) b
+  pub open-refused : (e : Refusal) → r .container ≡ Opening.No e → filledAt (No e) b ≡ filledBy (openText choice image) b
   unfolding openText
   open-refused e q = rw (← p, q)
 

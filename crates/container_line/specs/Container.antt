@@ -3,6 +3,7 @@ use Prim.Native.Nat.{ℕ}
 use mathlib.Core.List.{List, [], _∷_}
 use Rattle.error.specs.Answer.{Answer, got, _>>=_}
 use Rattle.text.specs.Words.{ascii, digits, words}
+use Rattle.checkpoints.specs.declared.by_number.Choice.{Choice}
 use Rattle.nx.specs.Open.{openAt}
 use Rattle.nx.specs.Slots.{volumesOf}
 use Rattle.nx.specs.declared.container.Container.{Container}
@@ -21,5 +22,5 @@ containerText image c x =
     (numberWords (volumesOf image (c .sb)) (ascii ")\n" x))
 
 -- what `apfs_open` answers
-unfoldable pub openText : List ℕ → Answer (List ℕ)
-openText image = openAt image .answer >>= λ c. got (containerText image c [])
+unfoldable pub openText : Choice → List ℕ → Answer (List ℕ)
+openText choice image = openAt choice image .answer >>= λ c. got (containerText image c [])

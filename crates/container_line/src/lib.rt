@@ -1,4 +1,5 @@
 // The line of a container that is opened.
+use checkpoints::Choice;
 use checkpoints::Superblock;
 use nx::Container;
 use nx::Opening;
@@ -79,10 +80,10 @@ fn show(image: &[u8], c: Container, out: &mut [u8]) -> Position
     }
 }
 
-pub fn open_line(image: &[u8], out: &mut [u8]) -> Position
-    ensures { λ r. ⌜ filledAt r (now (out .exit)) ≡ filledBy (openText (now (image .entry))) (now (out .entry)) ⌝ }
+pub fn open_line(image: &[u8], choice: Choice, out: &mut [u8]) -> Position
+    ensures { λ r. ⌜ filledAt r (now (out .exit)) ≡ filledBy (openText choice (now (image .entry))) (now (out .entry)) ⌝ }
 {
-    let opened = nx::open(image);
+    let opened = nx::open(image, choice);
     let container = opened.container;
     match container {
         Opening::Got(c) => show(image, c, out),

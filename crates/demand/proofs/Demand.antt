@@ -10,6 +10,7 @@ use Rattle.error.proofs.Laws.{got-is, bound}
 use Rattle.bytes.specs.Part.{partOf}
 use Rattle.volume.specs.Open.{volumeOfImage}
 use Rattle.volume.specs.declared.Volume.{Volume}
+use Rattle.volume.specs.declared.Which.{Which}
 use Rattle.lines.specs.Shown.{InodeShown, AttributeShown, Contents, packed, plain}
 use Rattle.demand.specs.View.{View}
 use Rattle.demand.specs.Listing.{isPacked, listing}
@@ -25,7 +26,7 @@ use Rattle.demand.proofs.Lookups.{opened-small}
 use Rattle.demand.proofs.Parts.{listing-of-view, lookup-of-view, opened-part}
 
 -- what is known where a listing was not refused: the volume was opened, and the listing is that of its view
-record Listed (view : List ℕ → ℕ → Answer View) (image : List ℕ) (index room : ℕ) (t : List ℕ) : Type 0 where
+record Listed (view : List ℕ → Which → Answer View) (image : List ℕ) (index : Which) (room : ℕ) (t : List ℕ) : Type 0 where
   it : View
   opened : view image index ≡ got it
   lists : listing it room ≡ got t
@@ -47,12 +48,12 @@ no-refusal : (v : View) (m : ℕ) (t : List ℕ) → listing v m ≡ got t → (
 no-refusal v m t p c = let a = listing-done v m p in ends-unrefused v (chain v c) (ends v v c 2 (a .tree) (a .shows) (a .shows))
 
 -- the listing of what is answered meets the demand wherever the law of file reads holds, and lookups go by what is answered
-module _ (view : List ℕ → ℕ → Answer View) (find : List ℕ → ℕ → List ℕ → Answer InodeShown) (lister : Lister)
-    (lists : (image : List ℕ) (index room : ℕ) → lister image index room ≡ (view image index >>= λ v. listing v room))
-    (finds : (image : List ℕ) (index : ℕ) (path : List ℕ) → find image index path ≡ (view image index >>= λ v. lookup v path))
-    (reads : (image : List ℕ) (index : ℕ) (v : View) → view image index ≡ got v → Reads v)
-    (short : (image : List ℕ) (index : ℕ) (v : View) → view image index ≡ got v → Bytes image → Short (2 ^ 64 - 1) v) where
-  listed : (image : List ℕ) (index room : ℕ) (t : List ℕ) → lister image index room ≡ got t → Listed view image index room t
+module _ (view : List ℕ → Which → Answer View) (find : List ℕ → Which → List ℕ → Answer InodeShown) (lister : Lister)
+    (lists : (image : List ℕ) (index : Which) (room : ℕ) → lister image index room ≡ (view image index >>= λ v. listing v room))
+    (finds : (image : List ℕ) (index : Which) (path : List ℕ) → find image index path ≡ (view image index >>= λ v. lookup v path))
+    (reads : (image : List ℕ) (index : Which) (v : View) → view image index ≡ got v → Reads v)
+    (short : (image : List ℕ) (index : Which) (v : View) → view image index ≡ got v → Bytes image → Short (2 ^ 64 - 1) v) where
+  listed : (image : List ℕ) (index : Which) (room : ℕ) (t : List ℕ) → lister image index room ≡ got t → Listed view image index room t
   listed image index room t e =
       let a = bound (view image index) (λ v. listing v room) t (sym (lists image index room) ∙ e) in
       record { it = a .0; opened = a .1 .0; lists = a .1 .1 }
@@ -78,7 +79,7 @@ module _ (view : List ℕ → ℕ → Answer View) (find : List ℕ → ℕ → 
   }
 
 -- of a part
-module _ (part : List ℕ) (index : ℕ) (v : View) (h : viewOfPart part index ≡ got v) where
+module _ (part : List ℕ) (index : Which) (v : View) (h : viewOfPart part index ≡ got v) where
   opened-volume : (w : Volume) × ((volumeOfImage part index .answer ≡ got w) × (viewOf part w ≡ v))
   unfolding viewOfPart
   opened-volume =

@@ -8,6 +8,8 @@ use lib.Dec.{eqb}
 use lib.ListN.{length}
 use Rattle.error.specs.Answer.{Answer, got}
 use Rattle.error.proofs.Laws.{got-is, at-most}
+use Rattle.volume.specs.Open.{latest}
+use Rattle.volume.specs.declared.Which.{Which}
 use Rattle.text.specs.Words.{ascii, places, digits, signed, glyph, pairs}
 use Rattle.lines.specs.Shown.{InodeShown}
 use Rattle.lines.specs.Lines.{volumeLine, nodeLine, contentsLine, entryLine, close}
@@ -28,14 +30,14 @@ unfolding within
 fits s = sym (at-most (length s) (length s) _ _ _ (omega arith) refl)
 
 -- what a lister writes of an image whose volume is opened
-module _ (view : List ℕ → ℕ → Answer View) (text : List ℕ → View → Trace) (a : List ℕ) (i : ℕ) (v : View) (s : List ℕ) where
+module _ (view : List ℕ → Which → Answer View) (text : List ℕ → View → Trace) (a : List ℕ) (i : Which) (v : View) (s : List ℕ) where
   written : view a i ≡ got v → text a v ≡ says s → writing text view a i (length s) ≡ got s
   unfolding writing
   written h e = rw (h, e) (fits s)
 
 -- the two ways in which the demand is not met
-module _ (view : List ℕ → ℕ → Answer View) (find : List ℕ → ℕ → List ℕ → Answer InodeShown) (text : List ℕ → View → Trace)
-    (a b : List ℕ) (i j : ℕ) (v w : View) (p : view a i ≡ got v) (q : view b j ≡ got w) (s t : List ℕ) (f : text a v ≡ says s) (g : text b w ≡ says t)
+module _ (view : List ℕ → Which → Answer View) (find : List ℕ → Which → List ℕ → Answer InodeShown) (text : List ℕ → View → Trace)
+    (a b : List ℕ) (i j : Which) (v w : View) (p : view a i ≡ got v) (q : view b j ≡ got w) (s t : List ℕ) (f : text a v ≡ says s) (g : text b w ≡ says t)
     (d : DemandOn view find (writing text view)) where
   same-by-demand : s ≡ t → Same v w
   same-by-demand e = rw (p, q) at (d .listings a b i j (length s) (length t) s t (written view text a i v s p f) (written view text b j w t q g) .0 e)
@@ -43,7 +45,7 @@ module _ (view : List ℕ → ℕ → Answer View) (find : List ℕ → ℕ → 
   equal-by-demand : Same v w → s ≡ t
   equal-by-demand e = d .listings a b i j (length s) (length t) s t (written view text a i v s p f) (written view text b j w t q g) .1 (rw (p, q) e)
 
-shut-out : (view : List ℕ → ℕ → Answer View) (find : List ℕ → ℕ → List ℕ → Answer InodeShown) → ShutOut view find
+shut-out : (view : List ℕ → Which → Answer View) (find : List ℕ → Which → List ℕ → Answer InodeShown) → ShutOut view find
 shut-out view find = record {
   fixed-text = λ a b i j v w p q differ s d. differ (same-by-demand view find (fixedText s) a b i j v w p q s s refl refl d refl);
   deeper-blank = λ a b i j v w p q differ s f g d. differ (same-by-demand view find rootAlone a b i j v w p q s s f g d refl);
@@ -78,7 +80,7 @@ small-listed = refl
 
 -- the same where its file is the same
 small-same : Same (smallView 0) (smallView 0)
-small-same = same-by-demand smallAt smallFind ours (0 ∷ []) (0 ∷ []) 0 0 (smallView 0) (smallView 0) refl refl _ _ small-listed small-listed small-met refl
+small-same = same-by-demand smallAt smallFind ours (0 ∷ []) (0 ∷ []) (latest 0) (latest 0) (smallView 0) (smallView 0) refl refl _ _ small-listed small-listed small-met refl
 
 -- and not where it differs, two levels down
 small-differ : Same (smallView 0) (smallView 1) → ⊥
@@ -104,9 +106,9 @@ wrong-listers =
     let shut = shut-out smallAt smallFind in
     record {
       ours-meets = small-met;
-      fixed-text = shut .fixed-text (0 ∷ []) (1 ∷ []) 0 0 (smallView 0) (smallView 1) refl refl small-differ;
-      deeper-blank = shut .deeper-blank (0 ∷ []) (1 ∷ []) 0 0 (smallView 0) (smallView 1) refl refl small-differ _ (root-written 0) (root-written 1);
-      image-copied = shut .image-copied (0 ∷ 0 ∷ []) (0 ∷ 1 ∷ []) 0 0 (smallView 0) (smallView 0) refl refl small-same (λ e. let z : _≡_ {A = ℕ} 0 1 = cc in omega arith);
+      fixed-text = shut .fixed-text (0 ∷ []) (1 ∷ []) (latest 0) (latest 0) (smallView 0) (smallView 1) refl refl small-differ;
+      deeper-blank = shut .deeper-blank (0 ∷ []) (1 ∷ []) (latest 0) (latest 0) (smallView 0) (smallView 1) refl refl small-differ _ (root-written 0) (root-written 1);
+      image-copied = shut .image-copied (0 ∷ 0 ∷ []) (0 ∷ 1 ∷ []) (latest 0) (latest 0) (smallView 0) (smallView 0) refl refl small-same (λ e. let z : _≡_ {A = ℕ} 0 1 = cc in omega arith);
       anywhere = shut-out;
       ours-lists = λ image index room. sym (listing-of-view image index room);
     }

@@ -14,6 +14,7 @@ use Rattle.nx.specs.declared.container.Container.{Container}
 use Rattle.nx.specs.Open.{openAt}
 use Rattle.volume.specs.Open.{volumeOpen, volumeOfImage}
 use Rattle.volume.specs.declared.Volume.{Volume}
+use Rattle.volume.specs.declared.Which.{Which}
 use Rattle.records.specs.declared.directory.Entry.{Entry}
 use Rattle.inode_record.specs.declared.inode.Inode.{Inode}
 use Rattle.lists.specs.Lists.{entriesOf, inodeOf}
@@ -83,7 +84,7 @@ module _ (image : List ℕ) (v : Volume) where
   answer-shown n (no w) = refl
 
 -- on a container: what the call's contract says is the lookup on the view
-pub lookup-of-part : (image : List ℕ) (index : ℕ) (path : List ℕ) → lookupOfPart image index path ≡ (viewOfPart image index >>= λ v. lookup v path)
+pub lookup-of-part : (image : List ℕ) (index : Which) (path : List ℕ) → lookupOfPart image index path ≡ (viewOfPart image index >>= λ v. lookup v path)
 unfolding lookupOfPart viewOfPart
 lookup-of-part image index path = of (volumeOfImage image index .nodes) (volumeOfImage image index .answer)
   where
@@ -93,9 +94,9 @@ lookup-of-part image index path = of (volumeOfImage image index .nodes) (volumeO
     of n (no w) = refl
 
 -- document 01, "Image over 2^34 bytes: 7"
-pub opened-small : (image : List ℕ) (index : ℕ) (v : Volume) → volumeOfImage image index .answer ≡ got v → length image ≤ 2 ^ 34
+pub opened-small : (image : List ℕ) (index : Which) (v : Volume) → volumeOfImage image index .answer ≡ got v → length image ≤ 2 ^ 34
 unfolding volumeOfImage openAt
 opened-small image index v =
-    le-cases (λ (x : Counted Container). (onto x λ c s. volumeOpen image c index s) .answer ≡ got v → length image ≤ 2 ^ 34)
+    le-cases (λ (x : Counted Container). (onto x λ c s. volumeOpen image c (index .index) s) .answer ≡ got v → length image ≤ 2 ^ 34)
     (λ h e. h)
     (λ h e. absurd (let z : _≡_ {A = ℕ} 0 1 = cc in omega arith))

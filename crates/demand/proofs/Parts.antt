@@ -7,6 +7,7 @@ use Rattle.error.proofs.Laws.{bound}
 use Rattle.bytes.specs.Part.{partOf}
 use Rattle.bytes.specs.declared.Span.{Span}
 use Rattle.gpt.specs.Part.{partOfImage, onPart}
+use Rattle.volume.specs.declared.Which.{Which}
 use Rattle.demand.specs.View.{View}
 use Rattle.demand.specs.Listing.{listing}
 use Rattle.demand.specs.Lookup.{lookup}
@@ -22,7 +23,7 @@ on-part image f g k h = of (partOfImage image)
     of (got s) = h (partOf image s)
     of (no e) = refl
 
-module _ (image : List ℕ) (index : ℕ) where
+module _ (image : List ℕ) (index : Which) where
   -- what goes by the view of each part goes by that of the image
   pub on-view : {A : Type 0} (g : View → Answer A) (k : List ℕ → Answer A) → ((p : List ℕ) → k p ≡ (viewOfPart p index >>= g)) → onPart k image ≡ (viewAt image index >>= g)
   unfolding viewAt

@@ -1,6 +1,6 @@
 -- THE THIRD DEMAND: what it says. Document 01, "The listing (added)", "For demand 3 ..". It is proved, as `third-demand`, in proofs/Demand.antt.
 --
--- Of any two images, any volume indexes in them and any lengths of the two buffers, such that neither listing is refused:
+-- Of any two images, any checkpoints and volume indexes in them and any lengths of the two buffers, such that neither listing is refused:
 --   1. the two texts are equal exactly where the volumes are the same: label and name rule are equal, and every chain of positions, of any length,
 --      leads to nowhere on both, or on both to inodes with equal fields, equal entries and equal attributes with their contents, in order and repeats
 --      kept, and with equal answers to a file read at every offset and length;
@@ -30,6 +30,7 @@ use Rattle.utf8.specs.Text.{lossy}
 use Rattle.lookup.specs.Counted.{after, onto}
 use Rattle.volume.specs.Open.{volumeOfImage}
 use Rattle.volume.specs.declared.Volume.{Volume}
+use Rattle.volume.specs.declared.Which.{Which}
 use Rattle.records.specs.declared.attribute.Attribute.{Attribute}
 use Rattle.label.specs.Label.{labelOf}
 use Rattle.lists.specs.Lists.{rootId, inodeOf, entriesOf, attributesOf}
@@ -88,29 +89,29 @@ Bytes image = (i : ℕ) → getD image i 0 < 256
 
 -- ---- of the bytes of a container
 
--- the volume at an index
-unfoldable pub viewOfPart : List ℕ → ℕ → Answer View
-viewOfPart part index = volumeOfImage part index .answer >>= λ v. got (viewOf part v)
+-- a volume, at a checkpoint
+unfoldable pub viewOfPart : List ℕ → Which → Answer View
+viewOfPart part w = volumeOfImage part w .answer >>= λ v. got (viewOf part v)
 
 -- its listing into a buffer of `room` bytes: "answered for a volume opened from an image, whatever the buffer's length"
-unfoldable pub listingOfPart : List ℕ → ℕ → ℕ → Answer (List ℕ)
-listingOfPart part index room = viewOfPart part index >>= λ v. listing v room
+unfoldable pub listingOfPart : List ℕ → Which → ℕ → Answer (List ℕ)
+listingOfPart part w room = viewOfPart part w >>= λ v. listing v room
 
 -- fs.rs, `lookup_path`: "A lookup goes by its whole answer, less what is left out of the comparison"
-unfoldable pub lookupOfPart : List ℕ → ℕ → List ℕ → Answer InodeShown
-lookupOfPart part index path =
-    onto (volumeOfImage part index) (λ v s. onto (lookupPath part v path s) λ i t. after t (got (inodeShown (v .reader) part i))) .answer
+unfoldable pub lookupOfPart : List ℕ → Which → List ℕ → Answer InodeShown
+lookupOfPart part w path =
+    onto (volumeOfImage part w) (λ v s. onto (lookupPath part v path s) λ i t. after t (got (inodeShown (v .reader) part i))) .answer
 
 -- ---- of an image. Document 02, request 01: "Everything after reads that part as its whole image"
 
-unfoldable pub viewAt : List ℕ → ℕ → Answer View
-viewAt image index = onPart (λ p. viewOfPart p index) image
+unfoldable pub viewAt : List ℕ → Which → Answer View
+viewAt image w = onPart (λ p. viewOfPart p w) image
 
-unfoldable pub listingOf : List ℕ → ℕ → ℕ → Answer (List ℕ)
-listingOf image index room = onPart (λ p. listingOfPart p index room) image
+unfoldable pub listingOf : List ℕ → Which → ℕ → Answer (List ℕ)
+listingOf image w room = onPart (λ p. listingOfPart p w room) image
 
-unfoldable pub lookupOf : List ℕ → ℕ → List ℕ → Answer InodeShown
-lookupOf image index path = onPart (λ p. lookupOfPart p index path) image
+unfoldable pub lookupOf : List ℕ → Which → List ℕ → Answer InodeShown
+lookupOf image w path = onPart (λ p. lookupOfPart p w path) image
 
 -- ---- when two volumes answer the same
 
@@ -207,23 +208,24 @@ abbrev pub UnrefusedOn : Answer View → List ℕ → Type 0
 UnrefusedOn (got v) c = Unrefused v (chain v c)
 UnrefusedOn (no e) c = ⊥
 
--- a lister: of an image, a volume's index and a buffer's length, a text or a refusal
+-- a lister: of an image, a checkpoint and volume of it and a buffer's length, a text or a refusal
 abbrev pub Lister : Type 0
-Lister = List ℕ → ℕ → ℕ → Answer (List ℕ)
+Lister = List ℕ → Which → ℕ → Answer (List ℕ)
 
--- the demand on any lister, where `view` is what the volume at an index of an image answers, and `find` what a path looked up there gets
-pub record DemandOn (view : List ℕ → ℕ → Answer View) (find : List ℕ → ℕ → List ℕ → Answer InodeShown) (lister : Lister) : Type 0 where
+-- the demand on any lister, where `view` is what a volume of an image answers, and `find` what a path looked up there gets. Document 02, request 04:
+-- "Listings of one stick from two checkpoints compare as those of two sticks do": a and b may be one image
+pub record DemandOn (view : List ℕ → Which → Answer View) (find : List ℕ → Which → List ℕ → Answer InodeShown) (lister : Lister) : Type 0 where
   -- 1. equal texts exactly where the volumes are the same
-  pub listings : (a b : List ℕ) (i j m n : ℕ) (t u : List ℕ) → lister a i m ≡ got t → lister b j n ≡ got u
+  pub listings : (a b : List ℕ) (i j : Which) (m n : ℕ) (t u : List ℕ) → lister a i m ≡ got t → lister b j n ≡ got u
       → (t ≡ u) ↔ SameVolumes (view a i) (view b j)
   -- 2. the same for the reads that a caller can ask
-  pub listings-to : (a b : List ℕ) (i j m n : ℕ) (t u : List ℕ) → Bytes a → Bytes b → lister a i m ≡ got t → lister b j n ≡ got u
+  pub listings-to : (a b : List ℕ) (i j : Which) (m n : ℕ) (t u : List ℕ) → Bytes a → Bytes b → lister a i m ≡ got t → lister b j n ≡ got u
       → (t ≡ u) ↔ SameVolumesTo (2 ^ 64 - 1) (view a i) (view b j)
   -- 3. every path gets the same answer, or the same refusal
-  pub lookups : (a b : List ℕ) (i j m n : ℕ) (t u : List ℕ) → lister a i m ≡ got t → lister b j n ≡ got u → t ≡ u
+  pub lookups : (a b : List ℕ) (i j : Which) (m n : ℕ) (t u : List ℕ) → lister a i m ≡ got t → lister b j n ≡ got u → t ≡ u
       → (path : List ℕ) → find a i path ≡ find b j path
   -- 4. no chain meets a refusal
-  pub unrefused : (a : List ℕ) (i m : ℕ) (t : List ℕ) → lister a i m ≡ got t → (c : List ℕ) → UnrefusedOn (view a i) c
+  pub unrefused : (a : List ℕ) (i : Which) (m : ℕ) (t : List ℕ) → lister a i m ≡ got t → (c : List ℕ) → UnrefusedOn (view a i) c
 
 -- of the listing, on volumes opened from images
 abbrev pub ThirdDemand : Type 0

@@ -15,6 +15,7 @@ use lib.IntN.{pos}
 use lib.Dec.{eqb}
 use lib.ListN.{getD, take, drop}
 use Rattle.error.specs.Answer.{Answer, got, _>>=_}
+use Rattle.volume.specs.declared.Which.{Which}
 use Rattle.lists.specs.Lists.{rootId}
 use Rattle.lines.specs.Shown.{InodeShown, EntryShown}
 use Rattle.demand.specs.Trace.{Trace, says, within}
@@ -26,8 +27,8 @@ use Rattle.demand.specs.Demand.{viewAt, listingOf, Same, Lister, DemandO
 -- ---- listers
 
 -- the lister that writes `text` of an image and of what its volume answers
-unfoldable pub writing : (List ℕ → View → Trace) → (List ℕ → ℕ → Answer View) → Lister
-writing text view image index room = view image index >>= λ v. within room (text image v)
+unfoldable pub writing : (List ℕ → View → Trace) → (List ℕ → Which → Answer View) → Lister
+writing text view image w room = view image w >>= λ v. within room (text image v)
 
 -- ours
 abbrev pub ours : List ℕ → View → Trace
@@ -87,24 +88,24 @@ smallView b = record {
   read = λ i off len. got (take len (drop off (smallFile b i)));
 }
 
-abbrev pub smallAt : List ℕ → ℕ → Answer View
-smallAt image index = got (smallView (getD image 0 0))
+abbrev pub smallAt : List ℕ → Which → Answer View
+smallAt image w = got (smallView (getD image 0 0))
 
-abbrev pub smallFind : List ℕ → ℕ → List ℕ → Answer InodeShown
-smallFind image index path = smallAt image index >>= λ v. lookup v path
+abbrev pub smallFind : List ℕ → Which → List ℕ → Answer InodeShown
+smallFind image w path = smallAt image w >>= λ v. lookup v path
 
 -- ---- what is shut out
 
 -- images read in any way: what shows that a lister does not meet the demand
-pub record ShutOut (view : List ℕ → ℕ → Answer View) (find : List ℕ → ℕ → List ℕ → Answer InodeShown) : Type 0 where
+pub record ShutOut (view : List ℕ → Which → Answer View) (find : List ℕ → Which → List ℕ → Answer InodeShown) : Type 0 where
   -- two volumes that are not the same
-  pub fixed-text : (a b : List ℕ) (i j : ℕ) (v w : View) → view a i ≡ got v → view b j ≡ got w → (Same v w → ⊥)
+  pub fixed-text : (a b : List ℕ) (i j : Which) (v w : View) → view a i ≡ got v → view b j ≡ got w → (Same v w → ⊥)
       → (s : List ℕ) → DemandOn view find (writing (fixedText s) view) → ⊥
   -- two that are not the same, and whose roots are written alike
-  pub deeper-blank : (a b : List ℕ) (i j : ℕ) (v w : View) → view a i ≡ got v → view b j ≡ got w → (Same v w → ⊥)
+  pub deeper-blank : (a b : List ℕ) (i j : Which) (v w : View) → view a i ≡ got v → view b j ≡ got w → (Same v w → ⊥)
       → (s : List ℕ) → rootAlone a v ≡ says s → rootAlone b w ≡ says s → DemandOn view find (writing rootAlone view) → ⊥
   -- two images that differ, with the same volume in them
-  pub image-copied : (a b : List ℕ) (i j : ℕ) (v w : View) → view a i ≡ got v → view b j ≡ got w → Same v w → (a ≡ b → ⊥)
+  pub image-copied : (a b : List ℕ) (i j : Which) (v w : View) → view a i ≡ got v → view b j ≡ got w → Same v w → (a ≡ b → ⊥)
       → DemandOn view find (writing imageItself view) → ⊥
 
 pub record WrongListers : Type 0 where
@@ -114,5 +115,5 @@ pub record WrongListers : Type 0 where
   pub deeper-blank : DemandOn smallAt smallFind (writing rootAlone smallAt) → ⊥
   pub image-copied : DemandOn smallAt smallFind (writing imageItself smallAt) → ⊥
   -- images read in any way; and ours, on images, is the listing
-  pub anywhere : (view : List ℕ → ℕ → Answer View) (find : List ℕ → ℕ → List ℕ → Answer InodeShown) → ShutOut view find
-  pub ours-lists : (image : List ℕ) (index room : ℕ) → writing ours viewAt image index room ≡ listingOf image index room
+  pub anywhere : (view : List ℕ → Which → Answer View) (find : List ℕ → Which → List ℕ → Answer InodeShown) → ShutOut view find
+  pub ours-lists : (image : List ℕ) (w : Which) (room : ℕ) → writing ours viewAt image w room ≡ listingOf image w room

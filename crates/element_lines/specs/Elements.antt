@@ -6,6 +6,7 @@ use mathlib.Core.Option.{Option, none, some}
 use Rattle.error.specs.Answer.{Answer, got}
 use Rattle.lookup.specs.Counted.{Counted, after, onto}
 use Rattle.volume.specs.declared.Volume.{Volume}
+use Rattle.volume.specs.declared.Which.{Which}
 use Rattle.records.specs.declared.directory.Entry.{Entry}
 use Rattle.records.specs.declared.extent.Extent.{Extent}
 use Rattle.inode_record.specs.declared.inode.Inode.{Inode}
@@ -23,15 +24,15 @@ unfoldable pub entryOn : List ℕ → Volume → ℕ → ℕ → ℕ → Counted
 entryOn image v id place s = onto (placed place (entriesOf image v id s)) λ o t. after t (got (entryShow image v o))
 
 -- what `apfs_entry` answers
-unfoldable pub entryText : List ℕ → ℕ → ℕ → ℕ → Answer (List ℕ)
-entryText image index id place = onVolume (λ v s. entryOn image v id place s) image index
+unfoldable pub entryText : List ℕ → Which → ℕ → ℕ → Answer (List ℕ)
+entryText image w id place = onVolume (λ v s. entryOn image v id place s) image w
 
 unfoldable pub lookupOn : List ℕ → Volume → List ℕ → ℕ → Counted (List ℕ)
 lookupOn image v path s = onto (lookupPath image v path s) λ i t. after t (got (nodeLine (inodeShown (v .reader) image i) []))
 
 -- what `apfs_lookup` answers
-unfoldable pub lookupText : List ℕ → ℕ → List ℕ → Answer (List ℕ)
-lookupText image index path = onVolume (λ v s. lookupOn image v path s) image index
+unfoldable pub lookupText : List ℕ → Which → List ℕ → Answer (List ℕ)
+lookupText image w path = onVolume (λ v s. lookupOn image v path s) image w
 
 abbrev pub extentShow : Option Extent → List ℕ
 extentShow none = []
@@ -45,5 +46,5 @@ unfoldable pub extentOn : List ℕ → Volume → ℕ → ℕ → ℕ → Counte
 extentOn image v id place s = onto (inodeOf image v id s) λ i t. extentOf image v i place t
 
 -- what `apfs_extent` answers
-unfoldable pub extentText : List ℕ → ℕ → ℕ → ℕ → Answer (List ℕ)
-extentText image index id place = onVolume (λ v s. extentOn image v id place s) image index
+unfoldable pub extentText : List ℕ → Which → ℕ → ℕ → Answer (List ℕ)
+extentText image w id place = onVolume (λ v s. extentOn image v id place s) image w

@@ -7,6 +7,7 @@ use paths::lookup_path;
 use text::Position;
 use volume::Volume;
 use volume::VolumeOpening;
+use volume::Which;
 use volume::open_at;
 ghost use mathlib.Core.Path.{_≡_};
 ghost use mathlib.Core.List.{[]};
@@ -38,10 +39,10 @@ fn lookup_on(image: &[u8], v: Volume, path: &[u8], nodes: u64, out: &mut [u8]) -
     }
 }
 
-pub fn lookup_text(image: &[u8], index: u64, path: &[u8], out: &mut [u8]) -> Position
-    ensures { λ r. ⌜ filledAt r (now (out .exit)) ≡ filledBy (lookupText (now (image .entry)) index (now (path .entry))) (now (out .entry)) ⌝ }
+pub fn lookup_text(image: &[u8], which: Which, path: &[u8], out: &mut [u8]) -> Position
+    ensures { λ r. ⌜ filledAt r (now (out .exit)) ≡ filledBy (lookupText (now (image .entry)) which (now (path .entry))) (now (out .entry)) ⌝ }
 {
-    let opened = open_at(image, index);
+    let opened = open_at(image, which);
     let volume = opened.volume;
     match volume {
         VolumeOpening::Got(v) => lookup_on(image, v, path, opened.nodes, out),

@@ -9,6 +9,7 @@ use records::Extent;
 use text::Position;
 use volume::Volume;
 use volume::VolumeOpening;
+use volume::Which;
 use volume::open_at;
 ghost use mathlib.Core.Path.{_≡_};
 ghost use mathlib.Core.List.{[]};
@@ -50,10 +51,10 @@ fn extent_on(image: &[u8], v: Volume, id: u64, place: u64, nodes: u64, out: &mut
     }
 }
 
-pub fn extent_text(image: &[u8], index: u64, id: u64, place: u64, out: &mut [u8]) -> Position
-    ensures { λ r. ⌜ filledAt r (now (out .exit)) ≡ filledBy (extentText (now (image .entry)) index id place) (now (out .entry)) ⌝ }
+pub fn extent_text(image: &[u8], which: Which, id: u64, place: u64, out: &mut [u8]) -> Position
+    ensures { λ r. ⌜ filledAt r (now (out .exit)) ≡ filledBy (extentText (now (image .entry)) which id place) (now (out .entry)) ⌝ }
 {
-    let opened = open_at(image, index);
+    let opened = open_at(image, which);
     let volume = opened.volume;
     match volume {
         VolumeOpening::Got(v) => extent_on(image, v, id, place, opened.nodes, out),

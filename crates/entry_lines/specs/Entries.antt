@@ -9,6 +9,7 @@ use Rattle.error.specs.declared.Refusal.the-variants.{BufferTooShort}
 use Rattle.lookup.specs.Counted.{Counted, after, onto}
 use Rattle.obj.specs.declared.reader.Reader.{Reader}
 use Rattle.volume.specs.declared.Volume.{Volume}
+use Rattle.volume.specs.declared.Which.{Which}
 use Rattle.records.specs.declared.directory.Entry.{Entry}
 use Rattle.lists.specs.Lists.{entriesOf}
 use Rattle.lines.specs.Shown.{entryShown}
@@ -32,5 +33,5 @@ unfoldable pub entriesOn : List ℕ → Volume → ℕ → ℕ → ℕ → ℕ �
 entriesOn image v id place room s = onto (entriesOf image v id s) λ es t. after t (fittingSome room (linesOf (v .reader) image (drop place es)))
 
 -- what `apfs_entries` answers
-unfoldable pub entriesText : List ℕ → ℕ → ℕ → ℕ → ℕ → Answer (List ℕ)
-entriesText image index id place room = onVolume (λ v s. entriesOn image v id place room s) image index
+unfoldable pub entriesText : List ℕ → Which → ℕ → ℕ → ℕ → Answer (List ℕ)
+entriesText image w id place room = onVolume (λ v s. entriesOn image v id place room s) image w

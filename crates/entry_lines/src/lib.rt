@@ -15,6 +15,7 @@ use records::entry_name;
 use text::Position;
 use volume::Volume;
 use volume::VolumeOpening;
+use volume::Which;
 use volume::open_at;
 ghost use mathlib.Core.Path.{_≡_};
 ghost use lib.ListN.{length, drop};
@@ -132,10 +133,10 @@ fn entries_on(image: &[u8], v: Volume, id: u64, place: u64, nodes: u64, out: &mu
     }
 }
 
-pub fn entries_text(image: &[u8], index: u64, id: u64, place: u64, out: &mut [u8]) -> Position
-    ensures { λ r. ⌜ filledAt r (now (out .exit)) ≡ filledBy (entriesText (now (image .entry)) index id place (length (now (out .entry)))) (now (out .entry)) ⌝ }
+pub fn entries_text(image: &[u8], which: Which, id: u64, place: u64, out: &mut [u8]) -> Position
+    ensures { λ r. ⌜ filledAt r (now (out .exit)) ≡ filledBy (entriesText (now (image .entry)) which id place (length (now (out .entry)))) (now (out .entry)) ⌝ }
 {
-    let opened = open_at(image, index);
+    let opened = open_at(image, which);
     let volume = opened.volume;
     match volume {
         VolumeOpening::Got(v) => entries_on(image, v, id, place, opened.nodes, out),

@@ -2,11 +2,13 @@
 use bytes::Sliced;
 use bytes::Span;
 use bytes::part;
+use checkpoints::Choice;
 use error::Refusal;
 use error::number_of;
 use gpt::part_of_image;
 use listing::list_text;
 use text::Position;
+use volume::Which;
 
 fn print_refusal(e: Refusal) {
     io::write_all(1, b"(refused ");
@@ -34,7 +36,14 @@ fn main() {
     let mut out = [0u8; 65536];
     match part_of_image(stick) {
         Sliced::Got(s) => {
-            let p = list_text(part(stick, s), 0, &mut out);
+            let p = list_text(
+                part(stick, s),
+                Which {
+                    checkpoint: Choice::Latest,
+                    index: 0,
+                },
+                &mut out,
+            );
             print_listing(p, &out);
         }
         Sliced::No(e) => print_refusal(e),

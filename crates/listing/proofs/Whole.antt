@@ -19,6 +19,7 @@ use Rattle.text.proofs.Whole.{whole, whole-written}
 use Rattle.lookup.specs.Counted.{Counted}
 use Rattle.volume.specs.Open.{openTold, volumeOfImage}
 use Rattle.volume.specs.declared.Volume.{Volume}
+use Rattle.volume.specs.declared.Which.{Which}
 use Rattle.volume.specs.declared.VolumeOpened.{VolumeOpened}
 use Rattle.volume.specs.declared.VolumeOpening.{VolumeOpening}
 use Rattle.label.specs.Label.{labelOf}
@@ -98,7 +99,7 @@ module _ (t : Trace) (out : List ℕ) where
             let m : w ≡ BufferTooShort = cc in
             rw m (ap (λ (x : Answer (List ℕ)). listedOf x out) (above _ _ _ _ _ k refl))
 
-module _ (image : List ℕ) (index n : ℕ) (out : List ℕ) (r : VolumeOpened) (p : openTold r ≡ volumeOfImage image index) where
+module _ (image : List ℕ) (index : Which) (n : ℕ) (out : List ℕ) (r : VolumeOpened) (p : openTold r ≡ volumeOfImage image index) where
   -- the listing, by what opening answered
   abbrev by : Answer Volume → Answer (List ℕ)
   by a = a >>= (λ v. got (viewOf image v)) >>= λ w. listing w n

@@ -10,6 +10,7 @@ use text::clear;
 use text::put_all;
 use volume::Volume;
 use volume::VolumeOpening;
+use volume::Which;
 use volume::name_rule;
 use volume::open_at;
 ghost use mathlib.Core.Path.{_≡_};
@@ -58,10 +59,10 @@ fn list_volume(image: &[u8], v: Volume, out: &mut [u8]) -> Position
     }
 }
 
-pub fn list_text(image: &[u8], index: u64, out: &mut [u8]) -> Position
-    ensures { λ r. ⌜ filledAt r (now (out .exit)) ≡ listedOf (listingOfPart (now (image .entry)) index (length (now (out .entry)))) (now (out .entry)) ⌝ }
+pub fn list_text(image: &[u8], which: Which, out: &mut [u8]) -> Position
+    ensures { λ r. ⌜ filledAt r (now (out .exit)) ≡ listedOf (listingOfPart (now (image .entry)) which (length (now (out .entry)))) (now (out .entry)) ⌝ }
 {
-    let opened = open_at(image, index);
+    let opened = open_at(image, which);
     let volume = opened.volume;
     match volume {
         VolumeOpening::Got(v) => list_volume(image, v, out),

@@ -20,6 +20,7 @@ use Rattle.checkpoints.specs.Superblock.{superblockAt}
 use Rattle.checkpoints.specs.Maps.{mapsFrom, mapsFit}
 use Rattle.checkpoints.specs.Checkpoint.{acceptedAt, blockPlace, latestIn, orCorrupt, checkpointOf}
 use Rattle.checkpoints.specs.declared.superblock.Superblock.{Superblock}
+use Rattle.checkpoints.specs.declared.by_number.Choice.the-variants as choice
 use Rattle.checkpoints.proofs.Candidate.{magic-means, magic-if, superblock-if, marked-facts, candidate-facts, candidate-if, accepted-facts, accepted-candidate}
 use Rattle.checkpoints.proofs.Asked.{same-some}
 use Rattle.checkpoints.proofs.Latest.{latest-of, none-of}
@@ -33,7 +34,7 @@ use Rattle.nx.proofs.MapBlocks.{maps-mean, maps-if}
 after-test : {A B : Type 0} (m n s : ℕ) (x y : Answer A) (f : A → Counted B) → from s (ifEq m n x y) f ≡ ifEq m n (from s x f) (from s y f)
 after-test m n s x y f = eq-cases (λ (a : Answer _). from s a f ≡ ifEq m n (from s x f) (from s y f)) (λ h. same _ _ _ _ _ h refl) (λ h. other _ _ _ _ _ h refl)
 
-supported-opened : (image : List ℕ) (g : Geometry) (sb : Superblock) → from 0 (supported sb) (λ s. mappedOf image (g .reader) s) ≡ openedAs image g sb
+pub supported-opened : (image : List ℕ) (g : Geometry) (sb : Superblock) → from 0 (supported sb) (λ s. mappedOf image (g .reader) s) ≡ openedAs image g sb
 unfolding supported mappedOf openedAs
 supported-opened image g sb = after-test (sb .incompat % 2) 1 0 _ _ _ ∙ rw (after-test (sb .incompat / 256 % 2) 1 0 (no Unsupported) (got sb) (λ s. mappedOf image (g .reader) s))
 
@@ -55,14 +56,14 @@ module _ (image : List ℕ) (g : Geometry) (big : 4096 ≤ g .reader .«block_si
         superblock-if b (placeOf image g (g .base + i)) (superblockOf image g i) refl (number-read 8 b 16 (omega arith)) (number-read 8 b 64 (omega arith)) (number-read 4 b 104 (omega arith)) (number-read 8 b 112 (omega arith))
         (number-read 4 b 136 (omega arith)) (number-read 4 b 140 (omega arith)) (number-read 8 b 160 (omega arith)) (number-read 4 b 180 (omega arith))
 
-    abbrev Accepted : Superblock → Type 0
+    abbrev pub Accepted : Superblock → Type 0
     Accepted sb = acceptedAt (g .reader) image (g .ring) (placeOf image g (g .base + i)) ≡ some sb
 
     fit : mapsFit (g .reader) image (superblockOf image g i .descriptors) (xidOf image g i) (g .ring) ≡ mapsFrom (g .reader) image (superblockOf image g i .descriptors) (xidOf image g i) (g .ring) (little 4 (ringBlock image g i) 140 - 1) 0
     unfolding mapsFit
     fit = sym (other _ _ _ _ _ (λ z. omega arith) refl)
 
-    accepted-means : (sb : Superblock) → Accepted sb → (superblockOf image g i ≡ sb) × Candidate image g i
+    pub accepted-means : (sb : Superblock) → Accepted sb → (superblockOf image g i ≡ sb) × Candidate image g i
     accepted-means sb e =
         let b = ringBlock image g i in
         let place = placeOf image g (g .base + i) in
@@ -82,7 +83,7 @@ module _ (image : List ℕ) (g : Geometry) (big : 4096 ≤ g .reader .«block_si
           },
         )
 
-    accepted-if : Candidate image g i → Accepted (superblockOf image g i)
+    pub accepted-if : Candidate image g i → Accepted (superblockOf image g i)
     accepted-if c =
         let b = ringBlock image g i in
         let place = placeOf image g (g .base + i) in
@@ -95,7 +96,7 @@ module _ (image : List ℕ) (g : Geometry) (big : 4096 ≤ g .reader .«block_si
   taken : Option Superblock
   taken = latestIn (g .reader) image (g .base * size image g) (g .ring) (g .ring) 0
 
-  same-place : (j : ℕ) → blockPlace (g .reader) (g .base * size image g) j ≡ placeOf image g (g .base + j)
+  pub same-place : (j : ℕ) → blockPlace (g .reader) (g .base * size image g) j ≡ placeOf image g (g .base + j)
   same-place j = rw add-mul
 
   latest-means : (sb : Superblock) → taken ≡ some sb → (i : ℕ) × Latest image g i × (superblockOf image g i ≡ sb)
@@ -122,7 +123,7 @@ module _ (image : List ℕ) (g : Geometry) (big : 4096 ≤ g .reader .«block_si
       n j (superblockOf image g j) (omega arith) (omega (arith, c .inside)) (rw (same-place j) (accepted-if j (c .inside) c))
 
   -- ---- opening
-  opens : openAt image ≡ from 0 (orCorrupt taken >>= supported) (λ s. mappedOf image (g .reader) s) → Opens image g
+  opens : openAt choice.Latest image ≡ from 0 (orCorrupt taken >>= supported) (λ s. mappedOf image (g .reader) s) → Opens image g
   opens e = of taken refl
     where
       of : (a : Option Superblock) → taken ≡ a → Opens image g

@@ -4,3 +4,4 @@ pub mod BlockZero
 pub mod Objects
 pub mod MapBlocks
 pub mod LatestCheckpoint
+pub mod Numbers

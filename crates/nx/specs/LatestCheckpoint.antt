@@ -8,7 +8,7 @@
 -- The latest is the candidate of the greatest transaction number, and of several the earliest. A candidate is told by its bytes and by those of its maps.
 -- And 3. block 0 is read (`geometryAt`) and the area is found (`areaAt`) exactly if what the paper tests of them holds of the image's bytes.
 --
--- Of which call: `nx::open(image)` answers `openAt image`, which is its contract. `little n b off` is the number of the n bytes of b at off, `valid` the
+-- Of which call: `nx::open(image, Choice::Latest)` answers `openAt Latest image`, which is its contract. `little n b off` is the number of the n bytes of b at off, `valid` the
 -- test of an object's checksum, `mapAt` the object map that is loaded from an address. What `apfs_open` writes of it stands in apfs, specs/Opened.antt.
 --
 -- What is assumed: nothing. An image is any list of numbers.
@@ -30,6 +30,7 @@ use Rattle.omap.specs.Load.{mapAt}
 use Rattle.geometry.specs.BlockZero.{geometryAt, areaAt}
 use Rattle.geometry.specs.declared.Geometry.{Geometry}
 use Rattle.checkpoints.specs.declared.superblock.Superblock.{Superblock}
+use Rattle.checkpoints.specs.declared.by_number.Choice.the-variants as choice
 use Rattle.nx.specs.Open.{openAt}
 use Rattle.nx.specs.declared.container.Container.{Container}
 
@@ -145,9 +146,9 @@ module _ (image : List ℕ) (g : Geometry) where
 
   -- how opening ends
   pub data Opens : Type 0 where
-    at-latest : (i : ℕ) → Latest i → openAt image ≡ openedAs (superblockOf i) → Opens
+    at-latest : (i : ℕ) → Latest i → openAt choice.Latest image ≡ openedAs (superblockOf i) → Opens
     -- "No accepted candidate: 2"
-    no-candidate : ((i : ℕ) → Candidate i → ⊥) → openAt image ≡ after 0 (no Corrupt) → Opens
+    no-candidate : ((i : ℕ) → Candidate i → ⊥) → openAt choice.Latest image ≡ after 0 (no Corrupt) → Opens
 
 -- ---- the theorem
 

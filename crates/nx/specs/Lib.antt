@@ -2,3 +2,4 @@ pub mod Open
 pub mod Slots
 pub mod Volume
 pub mod LatestCheckpoint
+pub mod Numbers

@@ -10,7 +10,8 @@ use Rattle.lookup.specs.Counted.{Counted, after, from, onto}
 use Rattle.omap.specs.Load.{mapAt}
 use Rattle.geometry.specs.BlockZero.{geometryAt}
 use Rattle.geometry.specs.declared.Geometry.{Geometry}
-use Rattle.checkpoints.specs.Checkpoint.{checkpointOf}
+use Rattle.checkpoints.specs.Numbers.{checkpointBy}
+use Rattle.checkpoints.specs.declared.by_number.Choice.{Choice}
 use Rattle.checkpoints.specs.declared.superblock.Superblock.{Superblock}
 use Rattle.nx.specs.declared.container.Container.{Container}
 use Rattle.nx.specs.declared.container.Opening.{Opening}
@@ -28,8 +29,8 @@ openedTold r = after (r .nodes) (opened (r .container))
 unfoldable pub supported : Superblock → Answer Superblock
 supported sb = ifEq (sb .incompat % 2) 1 (no Unsupported) (ifEq (sb .incompat / 256 % 2) 1 (no Unsupported) (got sb))
 
-unfoldable pub chosenOf : List ℕ → Geometry → Answer Superblock
-chosenOf image g = checkpointOf image g >>= supported
+unfoldable pub chosenOf : Choice → List ℕ → Geometry → Answer Superblock
+chosenOf choice image g = checkpointBy choice image g >>= supported
 
 -- "Then the object map"
 unfoldable pub mappedOf : List ℕ → Reader → Superblock → Counted Container
@@ -37,9 +38,9 @@ mappedOf image r sb =
     onto (mapAt r image (sb .«omap_oid») (sb .xid) 0) λ m t.
     after t (got (record { reader = r; sb = sb; map = m }))
 
-unfoldable pub containerOf : List ℕ → Geometry → Counted Container
-containerOf image g = from 0 (chosenOf image g) λ sb. mappedOf image (g .reader) sb
+unfoldable pub containerOf : Choice → List ℕ → Geometry → Counted Container
+containerOf choice image g = from 0 (chosenOf choice image g) λ sb. mappedOf image (g .reader) sb
 
--- "Image over 2^34 bytes: 7"
-unfoldable pub openAt : List ℕ → Counted Container
-openAt image = ifLe (length image) (2 ^ 34) (from 0 (geometryAt image) λ g. containerOf image g) (after 0 (no ImageTooLarge))
+-- "Image over 2^34 bytes: 7"; at the latest checkpoint, or at one by its number (document 02, request 04)
+unfoldable pub openAt : Choice → List ℕ → Counted Container
+openAt choice image = ifLe (length image) (2 ^ 34) (from 0 (geometryAt image) λ g. containerOf choice image g) (after 0 (no ImageTooLarge))

@@ -1,7 +1,8 @@
 // Opening a container.
+use checkpoints::Choice;
 use checkpoints::Superblock;
 use checkpoints::Superblocked;
-use checkpoints::checkpoint_of;
+use checkpoints::checkpoint_by;
 use error::Refusal;
 use geometry::Geometry;
 use geometry::Measured;
@@ -43,10 +44,10 @@ fn supported_of(sb: Superblock) -> Superblocked
     Superblocked::Got(sb)
 }
 
-fn chosen_of(image: &[u8], g: Geometry) -> Superblocked
-    ensures { λ r. ⌜ superTold r ≡ chosenOf (now (image .entry)) g ⌝ }
+fn chosen_of(image: &[u8], g: Geometry, choice: Choice) -> Superblocked
+    ensures { λ r. ⌜ superTold r ≡ chosenOf choice (now (image .entry)) g ⌝ }
 {
-    match checkpoint_of(image, g) {
+    match checkpoint_by(image, g, choice) {
         Superblocked::Got(sb) => supported_of(sb),
         Superblocked::No(e) => Superblocked::No(e),
     }
@@ -74,10 +75,10 @@ fn mapped_of(image: &[u8], reader: Reader, sb: Superblock) -> Opened
     }
 }
 
-fn container_of(image: &[u8], g: Geometry) -> Opened
-    ensures { λ r. ⌜ openedTold r ≡ containerOf (now (image .entry)) g ⌝ }
+fn container_of(image: &[u8], g: Geometry, choice: Choice) -> Opened
+    ensures { λ r. ⌜ openedTold r ≡ containerOf choice (now (image .entry)) g ⌝ }
 {
-    match chosen_of(image, g) {
+    match chosen_of(image, g, choice) {
         Superblocked::Got(sb) => {
             let reader = g.reader;
             mapped_of(image, reader, sb)
@@ -89,8 +90,9 @@ fn container_of(image: &[u8], g: Geometry) -> Opened
     }
 }
 
-pub fn open(image: &[u8]) -> Opened
-    ensures { λ r. ⌜ openedTold r ≡ openAt (now (image .entry)) ⌝ }
+// The container at the checkpoint that is chosen.
+pub fn open(image: &[u8], choice: Choice) -> Opened
+    ensures { λ r. ⌜ openedTold r ≡ openAt choice (now (image .entry)) ⌝ }
 {
     if 17179869184 < image.len() {
         return Opened {
@@ -99,7 +101,7 @@ pub fn open(image: &[u8]) -> Opened
         };
     }
     match geometry_at(image) {
-        Measured::Got(g) => container_of(image, g),
+        Measured::Got(g) => container_of(image, g, choice),
         Measured::No(e) => Opened {
             container: Opening::No(e),
             nodes: 0,

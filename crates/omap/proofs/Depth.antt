@@ -6,9 +6,9 @@ use mathlib.Core.Option.{Option}
 use lib.ListN.{length}
 use native.Mathlib.Omega.{arith}
 use Rattle.error.specs.Answer.{Answer, got, no}
+use Rattle.error.proofs.Laws.{got-is}
 use Rattle.obj.specs.declared.reader.Reader.{Reader}
 use Rattle.node.specs.declared.layout.Node.{Node}
-use Rattle.node.specs.declared.layout.Info.{Info}
 use Rattle.lookup.specs.Counted.{Counted, from}
 use Rattle.lookup.specs.Path.{atOnce, on, andThen, countAlong, counted}
 use Rattle.lookup.specs.Read.{nodeAt}
@@ -23,26 +23,31 @@ use Rattle.omap.specs.Load.{treeAt, layoutOf, mapOf, mapAt}
 use Rattle.omap.specs.Depth.{objectPath, LoadedWithin33}
 
 -- what a counted answer that was got says of the answer before it
-from-got : {A B : Type 0} (s : ℕ) (a : Answer A) (f : A → Counted B) (y : B) → from s a f .answer ≡ got y → (x : A) × (a ≡ got x) × (f x .answer ≡ got y)
+pub from-got : {A B : Type 0} (s : ℕ) (a : Answer A) (f : A → Counted B) (y : B) → from s a f .answer ≡ got y → (x : A) × (a ≡ got x) × (f x .answer ≡ got y)
 from-got s (got x) f y e = (x, refl, e)
 from-got s (no w) f y e = absurd (let z : _≡_ {A = ℕ} 0 1 = cc in omega arith)
 
--- the root of a loaded map was read
-map-root : (r : Reader) (image : List ℕ) (root : Node) (xid s : ℕ) (m : Map) → mapOf r image root xid s .answer ≡ got m → root ≡ m .root
+-- the root of a loaded map was read, and its number was given
+map-parts : (r : Reader) (image : List ℕ) (root : Node) (xid s : ℕ) (m : Map) → mapOf r image root xid s .answer ≡ got m → (root ≡ m .root) × (xid ≡ m .xid)
 unfolding mapOf
-map-root r image root xid s m e = of (from-got s (layoutOf r image root) _ m e .0) (from-got s (layoutOf r image root) _ m e .2)
-  where
-    of : (i : Info) → got (record { root = root; info = i; xid = xid }) ≡ got m → root ≡ m .root
-    of i h =
-        let k : record { root = root; info = i; xid = xid } ≡ m = cc in
-        ap (λ (x : Map). x .root) k
+map-parts r image root xid s m e =
+    let i = from-got s (layoutOf r image root) _ m e in
+    let k = got-is _ m (i .2) in
+    (ap (λ (x : Map). x .root) k, ap (λ (x : Map). x .xid) k)
+
+pub map-number : (r : Reader) (image : List ℕ) (paddr xid s : ℕ) (m : Map) → mapAt r image paddr xid s .answer ≡ got m → xid ≡ m .xid
+unfolding mapAt
+map-number r image paddr xid s m e =
+    let a = from-got s (treeAt r image paddr) _ m e in
+    let c = from-got s (nodeAt r image (a .0)) _ m (a .2) in
+    map-parts r image (c .0) xid _ m (c .2) .1
 
 root-level : (r : Reader) (image : List ℕ) (paddr xid s : ℕ) (m : Map) → mapAt r image paddr xid s .answer ≡ got m → m .root .level ≤ 32
 unfolding mapAt
 root-level r image paddr xid s m e =
     let a = from-got s (treeAt r image paddr) _ m e in
     let c = from-got s (nodeAt r image (a .0)) _ m (a .2) in
-    of (c .0) (read-level r image (a .0) (c .0) (c .1)) (map-root r image (c .0) xid _ m (c .2))
+    of (c .0) (read-level r image (a .0) (c .0) (c .1)) (map-parts r image (c .0) xid _ m (c .2) .0)
   where
     of : (root : Node) → root .level ≤ 32 → root ≡ m .root → m .root .level ≤ 32
     of root h k = omega (arith, ap (λ (n : Node). n .level) k)

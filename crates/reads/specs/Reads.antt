@@ -6,6 +6,7 @@ use mathlib.Core.Option.{Option, none, some}
 use Rattle.error.specs.Answer.{Answer, got}
 use Rattle.lookup.specs.Counted.{Counted, after, onto}
 use Rattle.volume.specs.declared.Volume.{Volume}
+use Rattle.volume.specs.declared.Which.{Which}
 use Rattle.records.specs.declared.attribute.Attribute.{Attribute}
 use Rattle.lists.specs.Lists.{placed, attributesOf, inodeOf}
 use Rattle.files.specs.File.{readFile}
@@ -17,16 +18,16 @@ unfoldable pub readOn : List ℕ → Volume → ℕ → ℕ → ℕ → ℕ → 
 readOn image v id off len s = onto (inodeOf image v id s) λ i t. readFile image v i off len t
 
 -- what `apfs_read` answers
-unfoldable pub readText : List ℕ → ℕ → ℕ → ℕ → ℕ → Answer (List ℕ)
-readText image index id off len = onVolume (λ v s. readOn image v id off len s) image index
+unfoldable pub readText : List ℕ → Which → ℕ → ℕ → ℕ → Answer (List ℕ)
+readText image w id off len = onVolume (λ v s. readOn image v id off len s) image w
 
 -- the text of a symbolic link; its inode is read first
 unfoldable pub linkOn : List ℕ → Volume → ℕ → ℕ → Counted (List ℕ)
 linkOn image v id s = onto (inodeOf image v id s) λ i t. linkOf image v i t
 
 -- what `apfs_link` answers
-unfoldable pub linkText : List ℕ → ℕ → ℕ → Answer (List ℕ)
-linkText image index id = onVolume (λ v s. linkOn image v id s) image index
+unfoldable pub linkText : List ℕ → Which → ℕ → Answer (List ℕ)
+linkText image w id = onVolume (λ v s. linkOn image v id s) image w
 
 abbrev pub xattrShow : List ℕ → Volume → Option Attribute → ℕ → Counted (List ℕ)
 xattrShow image v none s = after s (got [])
@@ -37,5 +38,5 @@ unfoldable pub xattrOn : List ℕ → Volume → ℕ → ℕ → ℕ → Counted
 xattrOn image v id place s = onto (placed place (attributesOf image v id s)) λ o t. xattrShow image v o t
 
 -- what `apfs_xattr_bytes` answers
-unfoldable pub xattrBytes : List ℕ → ℕ → ℕ → ℕ → Answer (List ℕ)
-xattrBytes image index id place = onVolume (λ v s. xattrOn image v id place s) image index
+unfoldable pub xattrBytes : List ℕ → Which → ℕ → ℕ → Answer (List ℕ)
+xattrBytes image w id place = onVolume (λ v s. xattrOn image v id place s) image w

@@ -7,6 +7,7 @@ use lists::inode;
 use text::Position;
 use volume::Volume;
 use volume::VolumeOpening;
+use volume::Which;
 use volume::open_at;
 ghost use mathlib.Core.Path.{_≡_};
 ghost use lib.ListN.{length};
@@ -36,10 +37,10 @@ fn read_on(image: &[u8], v: Volume, id: u64, offset: u64, nodes: u64, out: &mut 
     }
 }
 
-pub fn read_text(image: &[u8], index: u64, id: u64, offset: u64, out: &mut [u8]) -> Position
-    ensures { λ r. ⌜ filledAt r (now (out .exit)) ≡ filledBy (readText (now (image .entry)) index id offset (length (now (out .entry)))) (now (out .entry)) ⌝ }
+pub fn read_text(image: &[u8], which: Which, id: u64, offset: u64, out: &mut [u8]) -> Position
+    ensures { λ r. ⌜ filledAt r (now (out .exit)) ≡ filledBy (readText (now (image .entry)) which id offset (length (now (out .entry)))) (now (out .entry)) ⌝ }
 {
-    let opened = open_at(image, index);
+    let opened = open_at(image, which);
     let volume = opened.volume;
     match volume {
         VolumeOpening::Got(v) => read_on(image, v, id, offset, opened.nodes, out),

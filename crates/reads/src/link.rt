@@ -7,6 +7,7 @@ use lists::inode;
 use text::Position;
 use volume::Volume;
 use volume::VolumeOpening;
+use volume::Which;
 use volume::open_at;
 ghost use mathlib.Core.Path.{_≡_};
 ghost use Rattle.links.specs.Link.{linkOf};
@@ -35,10 +36,10 @@ fn link_on(image: &[u8], v: Volume, id: u64, nodes: u64, out: &mut [u8]) -> Posi
     }
 }
 
-pub fn link_text(image: &[u8], index: u64, id: u64, out: &mut [u8]) -> Position
-    ensures { λ r. ⌜ filledAt r (now (out .exit)) ≡ filledBy (linkText (now (image .entry)) index id) (now (out .entry)) ⌝ }
+pub fn link_text(image: &[u8], which: Which, id: u64, out: &mut [u8]) -> Position
+    ensures { λ r. ⌜ filledAt r (now (out .exit)) ≡ filledBy (linkText (now (image .entry)) which id) (now (out .entry)) ⌝ }
 {
-    let opened = open_at(image, index);
+    let opened = open_at(image, which);
     let volume = opened.volume;
     match volume {
         VolumeOpening::Got(v) => link_on(image, v, id, opened.nodes, out),

@@ -8,6 +8,7 @@ use Rattle.error.specs.declared.Refusal.the-variants.{NotFound}
 use Rattle.text.specs.Words.{ascii, digits, words}
 use Rattle.lookup.specs.Counted.{Counted, after, onto}
 use Rattle.volume.specs.declared.Volume.{Volume}
+use Rattle.volume.specs.declared.Which.{Which}
 use Rattle.label.specs.Label.{labelReading}
 use Rattle.records.specs.Directory.{entryReading}
 use Rattle.records.specs.declared.directory.Entry.{Entry}
@@ -63,5 +64,5 @@ replacedOn image v kind id place s =
     (ifEq kind 4 (linkOn image v id s) (after s (no NotFound))))))
 
 -- what `apfs_replaced` answers
-unfoldable pub replacedText : List ℕ → ℕ → ℕ → ℕ → ℕ → Answer (List ℕ)
-replacedText image index kind id place = onVolume (λ v s. replacedOn image v kind id place s) image index
+unfoldable pub replacedText : List ℕ → Which → ℕ → ℕ → ℕ → Answer (List ℕ)
+replacedText image w kind id place = onVolume (λ v s. replacedOn image v kind id place s) image w

@@ -9,6 +9,7 @@ use label::label_replaced;
 use text::Position;
 use volume::Volume;
 use volume::VolumeOpening;
+use volume::Which;
 use volume::open_at;
 ghost use mathlib.Core.Path.{_≡_};
 ghost use Rattle.calls.specs.Filled.{filledAt, filledBy};
@@ -45,15 +46,15 @@ fn replaced_on(
 
 pub fn replaced_text(
     image: &[u8],
-    index: u64,
+    which: Which,
     kind: u64,
     id: u64,
     place: u64,
     out: &mut [u8],
 ) -> Position
-    ensures { λ r. ⌜ filledAt r (now (out .exit)) ≡ filledBy (replacedText (now (image .entry)) index kind id place) (now (out .entry)) ⌝ }
+    ensures { λ r. ⌜ filledAt r (now (out .exit)) ≡ filledBy (replacedText (now (image .entry)) which kind id place) (now (out .entry)) ⌝ }
 {
-    let opened = open_at(image, index);
+    let opened = open_at(image, which);
     let volume = opened.volume;
     match volume {
         VolumeOpening::Got(v) => replaced_on(image, v, kind, id, place, opened.nodes, out),

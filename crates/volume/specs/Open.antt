@@ -16,7 +16,9 @@ use Rattle.nx.specs.Open.{openAt}
 use Rattle.nx.specs.Volume.{volumeSuperblock}
 use Rattle.nx.specs.declared.container.Container.{Container}
 use Rattle.nx.specs.declared.volume.VolumeSuperblock.{VolumeSuperblock}
+use Rattle.checkpoints.specs.declared.by_number.Choice.the-variants.{Latest, Number}
 use Rattle.volume.specs.declared.Volume.{Volume}
+use Rattle.volume.specs.declared.Which.{Which}
 use Rattle.volume.specs.declared.VolumeOpening.{VolumeOpening}
 use Rattle.volume.specs.declared.VolumeOpening.the-variants.{Got, No}
 use Rattle.volume.specs.declared.VolumeOpened.{VolumeOpened}
@@ -45,6 +47,14 @@ openFrom image r sb xid s =
 unfoldable pub volumeOpen : List ℕ → Container → ℕ → ℕ → Counted Volume
 volumeOpen image c index s = onto (volumeSuperblock image c index s) λ sb t. openFrom image (c .reader) sb (c .sb .xid) t
 
--- the volume at an index of an image: its container opens first
-unfoldable pub volumeOfImage : List ℕ → ℕ → Counted Volume
-volumeOfImage image index = onto (openAt image) λ c s. volumeOpen image c index s
+-- a volume of an image: its container opens first, at the checkpoint that is named
+unfoldable pub volumeOfImage : List ℕ → Which → Counted Volume
+volumeOfImage image w = onto (openAt (w .checkpoint) image) λ c s. volumeOpen image c (w .index) s
+
+-- "Opening without a number remains the Rust's answer": document 02, request 04
+abbrev pub latest : ℕ → Which
+latest n = record { checkpoint = Latest; index = n }
+
+-- "open by number"
+abbrev pub numbered : ℕ → ℕ → Which
+numbered xid n = record { checkpoint = Number xid; index = n }

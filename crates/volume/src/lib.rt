@@ -3,6 +3,7 @@ mod rule;
 
 use arith::tick;
 use bytes::Number;
+use checkpoints::Choice;
 use error::Refusal;
 use lookup::Map;
 use lookup::Resolve;
@@ -27,6 +28,12 @@ pub use rule::name_rule;
 ghost use mathlib.Core.Path.{_≡_};
 ghost use Rattle.volume.specs.Open.{openTold, volumeOpen, volumeOfImage};
 ghost use Rattle.volume.specs.Inner.{rootedOf, treeOf, throughMap, mapFirst, testedOf};
+
+// Which volume of a container, at which checkpoint.
+pub struct Which {
+    pub checkpoint: Choice,
+    pub index: u64,
+}
 
 pub struct Volume {
     pub reader: Reader,
@@ -174,14 +181,15 @@ pub fn open_volume(image: &[u8], c: Container, index: u64, nodes: u64) -> Volume
     }
 }
 
-// The volume at an index of an image.
-pub fn open_at(image: &[u8], index: u64) -> VolumeOpened
-    ensures { λ r. ⌜ openTold r ≡ volumeOfImage (now (image .entry)) index ⌝ }
+// A volume of an image.
+pub fn open_at(image: &[u8], which: Which) -> VolumeOpened
+    ensures { λ r. ⌜ openTold r ≡ volumeOfImage (now (image .entry)) which ⌝ }
 {
-    let opened = nx::open(image);
+    let checkpoint = which.checkpoint;
+    let opened = nx::open(image, checkpoint);
     let container = opened.container;
     match container {
-        Opening::Got(c) => open_volume(image, c, index, opened.nodes),
+        Opening::Got(c) => open_volume(image, c, which.index, opened.nodes),
         Opening::No(e) => VolumeOpened {
             volume: VolumeOpening::No(e),
             nodes: opened.nodes,

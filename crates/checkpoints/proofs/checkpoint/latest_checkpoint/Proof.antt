@@ -1,19 +1,19 @@
+use borrow.Author.Needs.{needs}
 use Prim.Native.Nat.{_+_, _-_, _*_, _^_, _≤_, _<_}
 use mathlib.Core.Path.{_≡_}
-use borrow.Author.Needs.{needs}
 use Rattle.checkpoints.specs.Superblock.{foundTold}
 use Rattle.checkpoints.specs.Checkpoint.{latestIn}
-use Rattle.checkpoints.proofs.Choice.{latest-start, latest-turn, latest-done, block-scaled, block-starts}
+use Rattle.checkpoints.proofs.Choice.{latest-start, latest-turn, latest-done}
 use Rattle.checkpoints.proofs.checkpoint.latest_checkpoint.Statement.{statement}
 use Rattle.checkpoints.proofs.checkpoint.latest_checkpoint.Tie as tie
 
-ruleset turns = (needs, latest-start, latest-turn, latest-done, block-scaled, block-starts)
+ruleset turns = (needs, latest-start, latest-turn, latest-done)
 
 abbrev Inv-loop : tie.InvT-loop
-Inv-loop reader image start ring size best₀ i₀ best i = (i ≤ ring) × (size ≡ reader .«block_size») × (start + ring * size < 2 ^ 64) × (foundTold best ≡ latestIn reader image start ring (ring - i) i)
+Inv-loop reader image start ring best₀ i₀ best i = (i ≤ ring) × (start + ring * reader .«block_size» < 2 ^ 64) × (foundTold best ≡ latestIn reader image start ring (ring - i) i)
 
 abbrev μ-loop : tie.MeasureT-loop
-μ-loop reader image start ring size best₀ i₀ best i = i
+μ-loop reader image start ring best₀ i₀ best i = i
 
 pub latest-checkpoint-spec : {M : Type 1} → statement M
 latest-checkpoint-spec =
@@ -23,10 +23,7 @@ latest-checkpoint-spec =
     μ-loop
     (λ c. search turns)
     (λ c. search turns)
-    (λ c. search turns)
-    (λ c. search turns)
-    (λ c. search turns)
-    (λ c. search turns)
+    (λ c κs. search turns)
     (λ c κs. search turns)
     (λ c. search turns)
     (λ c. search turns)

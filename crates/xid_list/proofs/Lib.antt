@@ -1,0 +1,4 @@
+pub mod Held
+pub mod Inserts
+pub mod Rings
+pub mod Lists
