@@ -1,8 +1,8 @@
 //! The calls that the port exports, made safe. Each answers how many bytes it wrote to `out`, or
-//! minus the refusal's number.
+//! minus the refusal's number; `checkpoints` answers how many numbers.
 //!
-//! Without a feature the crate is empty: `open` has opening and the part that is opened, `calls` also the calls on a
-//! volume.
+//! Without a feature the crate is empty: `open` has opening, its checkpoints and the part that is opened, `calls` also
+//! the calls on a volume.
 
 #[cfg(feature = "calls")]
 pub mod calls;
@@ -11,4 +11,4 @@ mod opening;
 pub mod refusal;
 
 #[cfg(feature = "open")]
-pub use opening::{open, part};
+pub use opening::{checkpoints, open, open_at, part};

@@ -30,9 +30,15 @@ fn calls_port() -> Option<Port<'static>> {
     None
 }
 
+#[cfg(feature = "calls")]
+fn latest_list(image: &[u8], volume: u64, out: &mut [u8]) -> i64 {
+    use compare::port::calls::{list, Which};
+    list(image, Which::latest(volume), out)
+}
+
 fn list_port() -> Option<list::Port<'static>> {
     #[cfg(feature = "calls")]
-    return Some(&compare::port::calls::list);
+    return Some(&latest_list);
     #[cfg(not(feature = "calls"))]
     None
 }
@@ -43,7 +49,7 @@ fn parts_ports() -> Option<parts::Ports<'static>> {
         part: &compare::port::part,
         open: &compare::port::open,
         call: &calls::port,
-        list: &compare::port::calls::list,
+        list: &latest_list,
     });
     #[cfg(not(feature = "calls"))]
     None

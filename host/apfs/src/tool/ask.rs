@@ -2,7 +2,8 @@
 
 use std::ffi::OsStr;
 
-use apfs::{calls, refusal};
+use apfs::calls::{self, Which};
+use apfs::refusal;
 
 use crate::tool::attribute::Attribute;
 use crate::tool::container::{Container, Volume};
@@ -122,13 +123,17 @@ impl Asked {
         Failure::refused(format!("{}: {what}", self.file), number)
     }
 
+    fn which(&self, volume: u64) -> Which {
+        Which::latest(volume)
+    }
+
     fn line<T>(&self, what: &str, line: &[u8], parse: fn(&str) -> Option<T>) -> Result<T, Failure> {
         parsed(&format!("{}: {what}", self.file), line, parse)
     }
 
     /// Whether a volume opens: a path that is not UTF-8 is refused after that, and before anything in the volume is read.
     pub fn opens(&self, volume: u64) -> Result<(), u64> {
-        match count(calls::lookup(self.image(), volume, b"\xff", &mut [])) {
+        match count(calls::lookup(self.image(), self.which(volume), b"\xff", &mut [])) {
             Err(n) if n != PATH_NOT_UTF8 => Err(n),
             _ => Ok(()),
         }
@@ -145,7 +150,7 @@ impl Asked {
     pub fn lookup(&self, path: &[u8]) -> Result<Node, Failure> {
         self.open_volume()?;
         let what = shown_path(path);
-        let line = bytes(LONGEST, &|out| calls::lookup(self.image(), self.volume, path, out));
+        let line = bytes(LONGEST, &|out| calls::lookup(self.image(), self.which(self.volume), path, out));
         let line = line.map_err(|n| match n {
             NOT_FOUND => Failure::told(
                 format!("{}: {what}", self.file),
@@ -160,14 +165,14 @@ impl Asked {
 
     /// The directory's entries from `place` on, as many as a buffer holds; none past the last.
     pub fn entries(&self, what: &str, id: u64, place: u64) -> Result<Vec<Entry>, Failure> {
-        let call = |out: &mut [u8]| calls::entries(self.image(), self.volume, id, place, out);
+        let call = |out: &mut [u8]| calls::entries(self.image(), self.which(self.volume), id, place, out);
         let text = bytes_from(ENTRIES, LONGEST, &call).map_err(|n| self.refused(what, n))?;
         text.split_inclusive(|&b| b == b'\n').map(|line| self.line(what, line, Entry::parse)).collect()
     }
 
     /// The attribute at `place`, or none past the last; or the refusal's number.
     pub fn attribute(&self, id: u64, place: u64) -> Result<Result<Option<Attribute>, u64>, Failure> {
-        match bytes(LISTING, &|out| calls::xattr(self.image(), self.volume, id, place, out)) {
+        match bytes(LISTING, &|out| calls::xattr(self.image(), self.which(self.volume), id, place, out)) {
             Err(n) => Ok(Err(n)),
             Ok(line) if line.is_empty() => Ok(Ok(None)),
             Ok(line) => {
@@ -179,12 +184,12 @@ impl Asked {
 
     /// The bytes of the attribute at `place`, or the refusal's number.
     pub fn attribute_bytes(&self, id: u64, place: u64) -> Result<Vec<u8>, u64> {
-        bytes(LISTING, &|out| calls::xattr_bytes(self.image(), self.volume, id, place, out))
+        bytes(LISTING, &|out| calls::xattr_bytes(self.image(), self.which(self.volume), id, place, out))
     }
 
     /// How many bytes of the file came into `out`.
     pub fn read(&self, id: u64, offset: u64, out: &mut [u8]) -> Result<usize, u64> {
-        count(calls::read(self.image(), self.volume, id, offset, out))
+        count(calls::read(self.image(), self.which(self.volume), id, offset, out))
     }
 
     /// A file's size, or the refusal of a read.
@@ -194,7 +199,7 @@ impl Asked {
 
     /// A symbolic link's text, or the refusal's number.
     pub fn link(&self, id: u64) -> Result<String, u64> {
-        let text = bytes(LONGEST, &|out| calls::link(self.image(), self.volume, id, out))?;
+        let text = bytes(LONGEST, &|out| calls::link(self.image(), self.which(self.volume), id, out))?;
         Ok(String::from_utf8_lossy(&text).into_owned())
     }
 
@@ -206,7 +211,7 @@ impl Asked {
         }
         let what = "damaged parts of a name";
         let (kind, id, place) = name.numbers();
-        let call = |out: &mut [u8]| calls::replaced(self.image(), volume, kind, id, place, out);
+        let call = |out: &mut [u8]| calls::replaced(self.image(), self.which(volume), kind, id, place, out);
         let line = bytes(LONGEST, &call).map_err(|n| self.refused(what, n))?;
         Ok(match self.line(what, &line, damaged)? {
             0 => String::new(),
@@ -217,7 +222,7 @@ impl Asked {
     /// A volume's label and rule, or the refusal's number. No call but the listing tells them; one of over
     /// [`LONGEST`] bytes is not waited for.
     pub fn volume(&self, volume: u64) -> Result<Result<Volume, u64>, Failure> {
-        match bytes(LONGEST, &|out| calls::list(self.image(), volume, out)) {
+        match bytes(LONGEST, &|out| calls::list(self.image(), self.which(volume), out)) {
             Err(n) => Ok(Err(n)),
             Ok(text) => {
                 let first = text.split_inclusive(|&b| b == b'\n').next().unwrap_or_default();
@@ -230,7 +235,7 @@ impl Asked {
     pub fn list(&self) -> Result<Vec<u8>, Failure> {
         self.open_volume()?;
         let longest = self.part.length.saturating_mul(TIMES).max(LISTING);
-        let text = bytes(longest, &|out| calls::list(self.image(), self.volume, out));
+        let text = bytes(longest, &|out| calls::list(self.image(), self.which(self.volume), out));
         text.map_err(|n| self.refused(&format!("listing of volume {}", self.volume), n))
     }
 }

@@ -27,16 +27,22 @@ pub type Port<'p> = &'p dyn Fn(&[u8], u64, &Call, &mut [u8]) -> i64;
 /// The port itself.
 #[cfg(feature = "calls")]
 pub fn port(image: &[u8], volume: u64, call: &Call, out: &mut [u8]) -> i64 {
+    port_of(image, crate::port::calls::Which::latest(volume), call, out)
+}
+
+/// At any checkpoint.
+#[cfg(feature = "calls")]
+pub fn port_of(image: &[u8], which: crate::port::calls::Which, call: &Call, out: &mut [u8]) -> i64 {
     use crate::port::calls;
     match call {
-        Call::Lookup { path } => calls::lookup(image, volume, path, out),
-        Call::Read { id, offset, .. } => calls::read(image, volume, *id, *offset, out),
-        Call::Entry { id, place } => calls::entry(image, volume, *id, *place, out),
-        Call::Entries { id, place, .. } => calls::entries(image, volume, *id, *place, out),
-        Call::Xattr { id, place } => calls::xattr(image, volume, *id, *place, out),
-        Call::XattrBytes { id, place } => calls::xattr_bytes(image, volume, *id, *place, out),
-        Call::Link { id } => calls::link(image, volume, *id, out),
-        Call::Extent { id, place } => calls::extent(image, volume, *id, *place, out),
-        Call::Replaced { kind, id, place } => calls::replaced(image, volume, *kind, *id, *place, out),
+        Call::Lookup { path } => calls::lookup(image, which, path, out),
+        Call::Read { id, offset, .. } => calls::read(image, which, *id, *offset, out),
+        Call::Entry { id, place } => calls::entry(image, which, *id, *place, out),
+        Call::Entries { id, place, .. } => calls::entries(image, which, *id, *place, out),
+        Call::Xattr { id, place } => calls::xattr(image, which, *id, *place, out),
+        Call::XattrBytes { id, place } => calls::xattr_bytes(image, which, *id, *place, out),
+        Call::Link { id } => calls::link(image, which, *id, out),
+        Call::Extent { id, place } => calls::extent(image, which, *id, *place, out),
+        Call::Replaced { kind, id, place } => calls::replaced(image, which, *kind, *id, *place, out),
     }
 }

@@ -77,7 +77,7 @@ fn document_01_gives_an_example() {
     #[cfg(feature = "calls")]
     {
         let mut out = [7; 100];
-        let n = compare::port::calls::list(&example(), 0, &mut out);
+        let n = compare::port::calls::list(&example(), compare::port::calls::Which::latest(0), &mut out);
         assert_eq!((n, &out[..EXAMPLE.len()]), (EXAMPLE.len() as i64, EXAMPLE.as_bytes()));
         assert!(out[EXAMPLE.len()..].iter().all(|&b| b == 7));
     }
