@@ -1,13 +1,18 @@
 // A recorded call, made.
 use crate::record::Record;
 use crate::record::value;
+use apfs::apfs_checkpoints;
 use apfs::apfs_entry;
 use apfs::apfs_extent;
 use apfs::apfs_link;
 use apfs::apfs_list;
+use apfs::apfs_list_at;
 use apfs::apfs_lookup;
+use apfs::apfs_lookup_at;
 use apfs::apfs_open;
+use apfs::apfs_open_at;
 use apfs::apfs_read;
+use apfs::apfs_read_at;
 use apfs::apfs_replaced;
 use apfs::apfs_xattr;
 
@@ -19,6 +24,25 @@ fn written_on(out: &mut [u8]) {
         out[i] = x;
         x = std::num::wrapping_add_u8(x, 37);
         i += 1;
+    }
+}
+
+// At an earlier checkpoint, or the list of them: the input is a path or a transaction number.
+fn made_at(r: Record, image: &[u8], input: &[u8], out: &mut [u8]) -> i64 {
+    let op = r.op;
+    match op {
+        12 => apfs_checkpoints(image, out),
+        13 => apfs_open_at(image, r.a, out),
+        14 => apfs_lookup_at(image, r.a, r.volume, input, out),
+        15 => apfs_list_at(image, r.a, r.volume, out),
+        _ => apfs_read_at(
+            image,
+            value(bytes::u64_at(input, 0)),
+            r.volume,
+            r.a,
+            r.b,
+            out,
+        ),
     }
 }
 
@@ -41,7 +65,8 @@ fn made(r: Record, image: &[u8], input: &[u8], out: &mut [u8]) -> i64 {
             r.b,
             out,
         ),
-        _ => apfs_list(image, r.volume, out),
+        10 => apfs_list(image, r.volume, out),
+        _ => made_at(r, image, input, out),
     }
 }
 
@@ -77,7 +102,7 @@ pub fn agrees(r: Record, image: &[u8], input: &[u8], out: &mut [u8]) -> bool {
     if r.op < 3 {
         return false;
     }
-    if 11 < r.op {
+    if 16 < r.op {
         return false;
     }
     if out.len() < room {

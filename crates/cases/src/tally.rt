@@ -19,7 +19,7 @@ fn kind_of(op: u8, refusal: u8) -> usize {
     if op < 3 {
         return 0;
     }
-    if 11 < op {
+    if 16 < op {
         return 0;
     }
     if 18 < refusal {
@@ -28,7 +28,7 @@ fn kind_of(op: u8, refusal: u8) -> usize {
     (op - 3) as usize * 19 + refusal as usize
 }
 
-pub fn counted(t: Tally, r: Record, same: bool, kinds: &mut [u64; 171]) -> Tally {
+pub fn counted(t: Tally, r: Record, same: bool, kinds: &mut [u64; 266]) -> Tally {
     if !same {
         return Tally {
             titled: t.titled,
@@ -38,7 +38,7 @@ pub fn counted(t: Tally, r: Record, same: bool, kinds: &mut [u64; 171]) -> Tally
         };
     }
     let k = kind_of(r.op, r.refusal);
-    if k < 171 {
+    if k < 266 {
         kinds[k] = one_more(kinds[k]);
     }
     Tally {
@@ -64,6 +64,17 @@ pub fn print_tally(t: Tally) {
     io::write_all(1, b"\n");
 }
 
+fn print_export_at(op: usize) {
+    match op {
+        9 => io::write_all(1, b"apfs_checkpoints: "),
+        10 => io::write_all(1, b"apfs_open_at: "),
+        11 => io::write_all(1, b"apfs_lookup_at: "),
+        12 => io::write_all(1, b"apfs_list_at: "),
+        _ => io::write_all(1, b"apfs_read_at: "),
+    }
+    ;
+}
+
 fn print_export(op: usize) {
     match op {
         0 => io::write_all(1, b"apfs_open: "),
@@ -74,7 +85,8 @@ fn print_export(op: usize) {
         5 => io::write_all(1, b"apfs_link: "),
         6 => io::write_all(1, b"apfs_extent: "),
         7 => io::write_all(1, b"apfs_list: "),
-        _ => io::write_all(1, b"apfs_replaced: "),
+        8 => io::write_all(1, b"apfs_replaced: "),
+        _ => print_export_at(op),
     }
     ;
 }
@@ -95,9 +107,9 @@ fn print_kind(op: usize, refusal: usize, n: u64) {
     io::print_decimal(1, refusal as u64);
 }
 
-pub fn print_kinds(kinds: &[u64; 171]) {
+pub fn print_kinds(kinds: &[u64; 266]) {
     let mut k = 0;
-    while k < 171 {
+    while k < 266 {
         print_kind(k / 19, k % 19, kinds[k]);
         k += 1;
         if k % 19 == 0 {

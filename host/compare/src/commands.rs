@@ -10,7 +10,7 @@ use compare::opening::run::{judge, Run};
 use compare::opening::{answer, Open};
 use compare::pairs::{self, by_oracle, Ports};
 use compare::volumes::Volumes;
-use compare::{bench, cases, list, parts, reach, record, recorded, sample};
+use compare::{bench, cases, checkpoints, list, parts, reach, record, recorded, sample};
 
 use sticks::gpt::expected_part;
 
@@ -51,6 +51,21 @@ fn parts_ports() -> Option<parts::Ports<'static>> {
         call: &calls::port,
         list: &latest_list,
     });
+    #[cfg(not(feature = "calls"))]
+    None
+}
+
+fn checkpoints_ports() -> Option<checkpoints::Ports<'static>> {
+    #[cfg(feature = "calls")]
+    {
+        use compare::port::calls::{list, Which};
+        return Some(checkpoints::Ports {
+            numbers: &compare::port::checkpoints,
+            open: &compare::port::open_at,
+            call: &|image, xid, volume, call, out| calls::port_of(image, Which::at(xid, volume), call, out),
+            list: &|image, xid, volume, out| list(image, Which::at(xid, volume), out),
+        });
+    }
     #[cfg(not(feature = "calls"))]
     None
 }
@@ -197,6 +212,19 @@ pub fn parts(seed: u64, count: u64) {
     finish("parts", good, if parts_ports().is_some() { "all agree" } else { "the oracle alone was asked" });
 }
 
+pub fn checkpoints(seed: u64, count: u64) {
+    answer::silence_panics();
+    let run = checkpoints::run::Run::over(seed, count, checkpoints_ports());
+    print!("seed {seed}, {}", run.tally);
+    let missing = run.tally.missing();
+    let mut good = !run.report_failure(Path::new("target"));
+    if good && !missing.is_empty() {
+        println!("never seen: {}", missing.join(", "));
+        good = false;
+    }
+    finish("checkpoints", good, if checkpoints_ports().is_some() { "all agree" } else { "the oracle alone was asked" });
+}
+
 pub fn reach(seed: u64, count: u64) {
     answer::silence_panics();
     print!("{}", reach::Reach::over(seed, count).report());
@@ -208,6 +236,7 @@ pub fn bench() {
     print!("{}", bench::calls::run(calls_port()));
     print!("{}", bench::listing::run(list_port()));
     print!("{}", bench::parts::run(parts_ports()));
+    print!("{}", bench::checkpoints::run(checkpoints_ports()));
 }
 
 pub fn open(files: &[String]) {

@@ -1,7 +1,8 @@
 //! The port as safe functions, and its comparison with the published Rust: leaves ([`leaf`]), the
 //! opening of containers ([`opening`]) and of volumes ([`volumes`]), the calls on volumes ([`calls`]) and their
-//! listings ([`list`]), all of these on images with a partition table ([`parts`]), and of two sticks at a time
-//! ([`pairs`]). The Rust reads no table: it is given the part of an [`image`] that the table leads to.
+//! listings ([`list`]), all of these on images with a partition table ([`parts`]) and at earlier checkpoints
+//! ([`checkpoints`]), and of two sticks at a time ([`pairs`]). The Rust reads no table: it is given the part of an
+//! [`image`] that the table leads to.
 //!
 //! The comparison needs the oracle; without the published sources only [`port`], [`leaf`] and the
 //! file format of [`record`] are built.
@@ -12,6 +13,8 @@ pub mod bench;
 pub mod calls;
 #[cfg(oracle)]
 pub mod cases;
+#[cfg(oracle)]
+pub mod checkpoints;
 #[cfg(oracle)]
 pub mod comparison;
 #[cfg(oracle)]

@@ -14,14 +14,15 @@
 //! cargo run --release -p compare -- calls           the calls on their volumes
 //! cargo run --release -p compare -- list            the listings of their volumes
 //! cargo run --release -p compare -- parts           all of these on images with a partition table
+//! cargo run --release -p compare -- checkpoints     all of these at earlier checkpoints, and the list of those
 //! cargo run --release -p compare -- pairs           two sticks at a time: the same contents, and one thing changed
 //! cargo run --release -p compare -- reach           every call of the oracle on sticks, and what became of it
 //! cargo run --release -p compare -- open FILE..     open these images, and print each answer
 //! ```
 //!
 //! After `rt staticlib apfs`, with `--features apfs`, `sticks` and `open` hold the port's opening
-//! against the oracle's, and with `--features calls` `volumes`, `calls`, `list`, `parts` and `pairs` do the same of its
-//! calls and its listings; without these features they ask the oracle alone. Timings of both:
+//! against the oracle's, and with `--features calls` `volumes`, `calls`, `list`, `parts`, `checkpoints` and `pairs` do
+//! the same of its calls and its listings; without these features they ask the oracle alone. Timings of both:
 //!
 //! ```text
 //! cargo run --profile speed --features calls -p compare -- bench
@@ -47,10 +48,12 @@ const DEFAULT_FOR_CALLS: u64 = 3000;
 const DEFAULT_FOR_LISTS: u64 = 1600;
 /// Each image with a table has some 40 calls made on it, one of four as many as a stick.
 const DEFAULT_FOR_PARTS: u64 = 4000;
+/// Each stick is asked about at up to five numbers.
+const DEFAULT_FOR_CHECKPOINTS: u64 = 1000;
 /// Each stick has a second one beside it, and others with one thing changed.
 const DEFAULT_FOR_PAIRS: u64 = 300;
 const USAGE: &str =
-    "usage: compare [record FILE | record-calls FILE | replay FILE | sticks | volumes | calls | list | parts | pairs | reach | bench | open FILE..] \
+    "usage: compare [record FILE | record-calls FILE | replay FILE | sticks | volumes | calls | list | parts | checkpoints | pairs | reach | bench | open FILE..] \
                      [--seed N] [--count K]";
 
 enum Command {
@@ -63,6 +66,7 @@ enum Command {
     Calls,
     List,
     Parts,
+    Checkpoints,
     Pairs,
     Reach,
     Bench,
@@ -100,6 +104,7 @@ fn arguments() -> Arguments {
         Command::Calls => DEFAULT_FOR_CALLS,
         Command::List => DEFAULT_FOR_LISTS,
         Command::Parts => DEFAULT_FOR_PARTS,
+        Command::Checkpoints => DEFAULT_FOR_CHECKPOINTS,
         Command::Pairs => DEFAULT_FOR_PAIRS,
         _ => DEFAULT_STICKS,
     };
@@ -117,6 +122,7 @@ fn command(words: &[String]) -> Command {
         ["calls"] => Command::Calls,
         ["list"] => Command::List,
         ["parts"] => Command::Parts,
+        ["checkpoints"] => Command::Checkpoints,
         ["pairs"] => Command::Pairs,
         ["reach"] => Command::Reach,
         ["bench"] => Command::Bench,
@@ -149,6 +155,7 @@ fn main() {
         Command::Calls => commands::calls(seed, count),
         Command::List => commands::list(seed, count),
         Command::Parts => commands::parts(seed, count),
+        Command::Checkpoints => commands::checkpoints(seed, count),
         Command::Pairs => commands::pairs(seed, count),
         Command::Reach => commands::reach(seed, count),
         Command::Bench => commands::bench(),

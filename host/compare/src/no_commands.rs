@@ -36,6 +36,10 @@ pub fn pairs(_seed: u64, _count: u64) {
     none()
 }
 
+pub fn checkpoints(_seed: u64, _count: u64) {
+    none()
+}
+
 pub fn parts(_seed: u64, _count: u64) {
     none()
 }

@@ -4,9 +4,12 @@
 
 use std::sync::Arc;
 
+use compare::checkpoints::spoiled::image_at;
+use compare::image::Image;
 use compare::opening::answer::{self, Answer};
 use compare::opening::run::Run;
 use compare::walk::{walk, Reach};
+use sticks::plan::Save;
 use sticks::{Plan, Stick};
 
 const STICKS: u64 = 600;
@@ -42,6 +45,34 @@ fn sticks_of_given_contents_hold_them() {
         }
     }
     assert!(reach.volumes > STICKS / 4, "{reach:?}");
+}
+
+/// A save's stick as the oracle is to read it; none where another checkpoint may be taken, or a volume was made later.
+fn as_of(stick: &Stick, save: &Save) -> Option<Stick> {
+    let other = stick.plan.ring.checkpoints.iter().any(|c| c.xid == save.xid && !c.current);
+    if other || save.volumes.len() < stick.plan.volumes.len() {
+        return None;
+    }
+    let part = image_at(&Image::of(stick.image.clone()), save.xid, 1).part.expect("a checkpoint");
+    let plan = Plan { volumes: save.volumes.clone(), xid: save.xid, ..stick.plan.clone() };
+    (answer::open(&part) != Answer::Overflow).then(|| Stick {
+        plan,
+        image: part.to_vec(),
+        block_count: stick.block_count,
+    })
+}
+
+#[test]
+fn saved_sticks_hold_what_was_planned_at_each_number() {
+    let (mut reach, mut saves) = (Reach::default(), 0);
+    for plan in (0..STICKS / 4).map(|seed| Plan::draw(seed).saved()).filter(Plan::opens) {
+        let stick = sticks::make(plan);
+        for then in stick.plan.saves.iter().filter_map(|save| as_of(&stick, save)) {
+            walk(&then, &mut reach).unwrap_or_else(|e| panic!("stick {} at {}: {e}", then.plan.seed, then.plan.xid));
+            saves += 1;
+        }
+    }
+    assert!(saves > STICKS / 8 && reach.volumes > STICKS / 8, "{saves} saves, {reach:?}");
 }
 
 #[test]

@@ -37,7 +37,7 @@ pub struct Checkpoint {
     /// How many times round the ring the index is counted.
     pub turns: u32,
     pub fault: Option<Fault>,
-    /// The one whose slots and object map are the plan's.
+    /// Whether its slots and object map are the plan's.
     pub current: bool,
 }
 
@@ -75,7 +75,7 @@ impl Ring {
     }
 }
 
-/// Writes the ring at `base`. `usual` is the superblock of the current checkpoint.
+/// Writes the ring at `base`. `usual` is the superblock of a current checkpoint.
 pub fn write(ring: &Ring, base: u64, usual: &Superblock, disk: &mut Disk, random: &mut Random) {
     fill(ring, base, disk, random);
     for (c, (first, place)) in ring.checkpoints.iter().zip(ring.places()) {

@@ -3,11 +3,11 @@
 use crate::block::{put32, put64, seal, OMAP, PHYSICAL};
 use crate::checkpoint;
 use crate::disk::Disk;
-use crate::omap::{self, ENCRYPTED};
+use crate::omap::{self, Mapping, ENCRYPTED};
 use crate::plan::{Odd, Plan};
 use crate::random::Random;
 use crate::superblock::{Superblock, SLOTS};
-use crate::volume;
+use crate::volume::{self, Volume};
 
 /// An image and the plan that it was made from.
 pub struct Stick {
@@ -32,12 +32,10 @@ pub fn make(plan: Plan) -> Stick {
     let mut random = plan.random.clone();
     let mut disk = Disk::new(plan.block_size, plan.gaps, random.fork());
     let early = plan.ring_first.then(|| disk.take(u64::from(plan.ring.blocks)));
-    let objects: Vec<(u64, u64)> =
-        plan.volumes.iter().map(|v| (v.oid, volume::write(v, plan.xid, plan.history, &mut disk))).collect();
-    // Of a volume's superblock, the flag of encrypted objects says nothing to a reader.
-    let mappings = match plan.history {
-        true => omap::history(&objects, plan.xid, &[0, 0x2, ENCRYPTED, 0x10], &mut random),
-        false => omap::current(&objects, plan.xid),
+    let mappings = if plan.saves.is_empty() {
+        objects(&plan, &mut disk, &mut random)
+    } else {
+        saved_objects(&plan, &mut disk, &mut random)
     };
     let (map, root) = omap::write(mappings, plan.xid, &mut disk, &mut plan.map.clone());
     let base = early.unwrap_or_else(|| disk.take(u64::from(plan.ring.blocks)));
@@ -51,6 +49,32 @@ pub fn make(plan: Plan) -> Stick {
     disk.put(0, &zero);
     let image = finish(&plan, disk, block_count, &mut random);
     Stick { plan, image, block_count }
+}
+
+/// The volumes, as the container's object map has them.
+fn objects(plan: &Plan, disk: &mut Disk, random: &mut Random) -> Vec<Mapping> {
+    let objects: Vec<(u64, u64)> =
+        plan.volumes.iter().map(|v| (v.oid, volume::write(v, plan.xid, plan.history, disk))).collect();
+    // Of a volume's superblock, the flag of encrypted objects says nothing to a reader.
+    match plan.history {
+        true => omap::history(&objects, plan.xid, &[0, 0x2, ENCRYPTED, 0x10], random),
+        false => omap::current(&objects, plan.xid),
+    }
+}
+
+/// The volumes in each of their states: one map has them all, and the transaction number tells them apart.
+fn saved_objects(plan: &Plan, disk: &mut Disk, random: &mut Random) -> Vec<Mapping> {
+    let mut out = Vec::new();
+    for v in &plan.volumes {
+        let before = plan.saves.iter().filter_map(|s| Some((s.xid, s.volumes.iter().find(|w| w.oid == v.oid)?)));
+        let states: Vec<(u64, &Volume)> = before.chain([(plan.xid, v)]).collect();
+        let mut last = None;
+        for (xid, block) in volume::write_states(&states, disk) {
+            out.extend(omap::since(last, &[(v.oid, block)], xid, random));
+            last = Some(xid);
+        }
+    }
+    out
 }
 
 fn superblock(plan: &Plan, map: u64, base: u64, block_count: u64) -> Superblock {

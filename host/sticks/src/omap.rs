@@ -42,6 +42,12 @@ pub fn current(objects: &[(u64, u64)], xid: u64) -> Vec<Mapping> {
     objects.iter().map(|&(oid, block)| Mapping::new(oid, xid, block)).collect()
 }
 
+/// Each object as of some transaction after `before`, and up to `xid`.
+pub fn since(before: Option<u64>, objects: &[(u64, u64)], xid: u64, random: &mut Random) -> Vec<Mapping> {
+    let first = before.map_or(xid.saturating_sub(3), |b| b + 1);
+    objects.iter().map(|&(oid, block)| Mapping::new(oid, random.between(first, xid), block)).collect()
+}
+
 /// Each object as of `xid`, with some of `flags`, among older and later versions and objects that nobody asks for.
 pub fn history(objects: &[(u64, u64)], xid: u64, flags: &[u32], random: &mut Random) -> Vec<Mapping> {
     let mut out = Vec::new();

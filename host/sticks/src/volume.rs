@@ -56,6 +56,36 @@ impl Volume {
 /// Writes all of it, with older and later versions of its objects if there is a `history`; the superblock's block.
 pub fn write(v: &Volume, xid: u64, history: bool, disk: &mut Disk) -> u64 {
     let mut random = v.random.clone();
+    let (root, mapped) = tree(v, xid, disk, &mut random);
+    let mappings = match history {
+        true => omap::history(&mapped, xid, &[0, 0x2, 0x8, 0x10], &mut random),
+        false => omap::current(&mapped, xid),
+    };
+    let mappings = spoiled(v, mappings, &mapped, &mut random);
+    let map = omap::write(mappings, xid, disk, &mut v.map.clone()).0;
+    put_superblock(v, xid, map, root, disk)
+}
+
+/// Writes the states of one volume, oldest first, with one object map for all of them: the transaction number tells
+/// the states apart. Each state's number and its superblock's block.
+pub fn write_states(states: &[(u64, &Volume)], disk: &mut Disk) -> Vec<(u64, u64)> {
+    let Some(&(last, v)) = states.last() else { return Vec::new() };
+    let (mut mappings, mut roots, mut before) = (Vec::new(), Vec::new(), None);
+    for &(xid, v) in states {
+        let mut random = v.random.clone();
+        let (root, mapped) = tree(v, xid, disk, &mut random);
+        let since = omap::since(before, &mapped, xid, &mut random);
+        mappings.extend(spoiled(v, since, &mapped, &mut random));
+        roots.push(root);
+        before = Some(xid);
+    }
+    let map = omap::write(mappings, last, disk, &mut v.map.clone()).0;
+    let put = |(&(xid, v), root)| (xid, put_superblock(v, xid, map, root, disk));
+    states.iter().zip(roots).map(put).collect()
+}
+
+/// Writes the tree; its root's id, and each node's id with its block.
+fn tree(v: &Volume, xid: u64, disk: &mut Disk, random: &mut Random) -> (u64, Vec<(u64, u64)>) {
     let mut records = record::all(&v.contents, disk);
     if v.muddled && records.len() > 1 {
         let (a, b) = (random.place(records.len()), random.place(records.len()));
@@ -69,12 +99,10 @@ pub fn write(v: &Volume, xid: u64, history: bool, disk: &mut Disk) -> u64 {
     let mut place = Place { disk, ids, xid: node_xid, subtype: FSTREE, info };
     let (root, _) = place.write(&tree, &mut shape);
     let Ids::Virtual { mapped, .. } = place.ids else { unreachable!("the tree is virtual") };
-    let mappings = match history {
-        true => omap::history(&mapped, xid, &[0, 0x2, 0x8, 0x10], &mut random),
-        false => omap::current(&mapped, xid),
-    };
-    let mappings = spoiled(v, mappings, &mapped, &mut random);
-    let map = omap::write(mappings, xid, disk, &mut v.map.clone()).0;
+    (root, mapped)
+}
+
+fn put_superblock(v: &Volume, xid: u64, map: u64, root: u64, disk: &mut Disk) -> u64 {
     let at = disk.take(1);
     let b = superblock(v, xid, map, root, disk.block_size);
     disk.put(at, &b);

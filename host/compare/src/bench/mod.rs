@@ -1,6 +1,7 @@
 //! How much of the processor's time calls take, by the port and by the oracle.
 
 pub mod calls;
+pub mod checkpoints;
 mod clock;
 pub mod listing;
 pub mod opening;

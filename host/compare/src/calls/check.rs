@@ -8,7 +8,7 @@ use crate::calls::Port;
 
 const TOO_SHORT: i64 = -6;
 /// Those of calls that read an image.
-pub const REFUSALS: std::ops::RangeInclusive<i64> = -12..=-1;
+pub const REFUSALS: std::ops::RangeInclusive<i64> = -13..=-1;
 
 pub struct Subject<'a> {
     pub port: Port<'a>,

@@ -7,12 +7,12 @@ use crate::opening::Open;
 
 /// Longer than any answer: 103 numbers of up to 20 digits.
 const LONG: usize = 2200;
-const TOO_SHORT: i64 = -6;
+pub const TOO_SHORT: i64 = -6;
 const OVERFLOW: i64 = -8;
 
 /// One call with a buffer of `n` bytes: the result must be `want`, and the buffer start with `text`
 /// and be untouched after it.
-fn call(port: Open, image: &[u8], n: usize, want: i64, text: &[u8]) -> Result<(), String> {
+pub fn call(port: Open, image: &[u8], n: usize, want: i64, text: &[u8]) -> Result<(), String> {
     let mut buffer = pattern(n);
     let got = port(image, &mut buffer);
     if got != want {
@@ -28,7 +28,7 @@ fn call(port: Open, image: &[u8], n: usize, want: i64, text: &[u8]) -> Result<()
 }
 
 /// Some answer that is one: a refusal that leaves the buffer alone, or a text within it.
-fn any(port: Open, image: &[u8], allowed: &[i64]) -> Result<(), String> {
+pub fn any(port: Open, image: &[u8], allowed: &[i64]) -> Result<(), String> {
     let mut buffer = pattern(LONG);
     let got = port(image, &mut buffer);
     let kept = got.clamp(0, LONG as i64) as usize;

@@ -16,7 +16,7 @@ pub enum Outside {
 }
 
 /// Block size, ring size and base, where block 0 gives them.
-fn ring(image: &[u8]) -> Option<(u64, u64, u64)> {
+pub fn ring(image: &[u8]) -> Option<(u64, u64, u64)> {
     let size = u64::from(get32(image.get(..4096)?, 36));
     let fits = image[32..36] == *b"NXSB" && (4096..=65536).contains(&size) && size.count_ones() == 1;
     let blocks = u64::from(get32(image, 104));

@@ -5,6 +5,7 @@ use std::fmt;
 use crate::calls::call::Call;
 use crate::calls::directory::{Account, Rule};
 use crate::calls::expected::{self, Answer};
+use crate::checkpoints::spoiled::{self, image_at};
 use crate::image::Image;
 use crate::list::trace::End;
 use crate::list::walk;
@@ -12,12 +13,18 @@ use crate::opening::answer;
 use crate::opening::outside::outside;
 
 const TOO_SHORT: u64 = 6;
+/// A transaction number has so many bytes.
+const NUMBER: usize = 8;
 
 #[derive(Clone, Debug, PartialEq, Eq)]
 pub enum Asked {
     Open,
     Call(Call),
     List,
+    /// The numbers of the checkpoints.
+    Checkpoints,
+    /// The same at the checkpoint of a number.
+    At(u64, Box<Asked>),
 }
 
 #[derive(Clone, Debug, PartialEq, Eq)]
@@ -40,16 +47,47 @@ impl Asked {
             Asked::Open => "open",
             Asked::Call(call) => call.name(),
             Asked::List => "list",
+            Asked::Checkpoints => "checkpoints",
+            Asked::At(_, asked) => match asked.name() {
+                "open" => "open_at",
+                "lookup" => "lookup_at",
+                "read" => "read_at",
+                "list" => "list_at",
+                name => unreachable!("{name} is not recorded at a checkpoint"),
+            },
+        }
+    }
+
+    /// How many of what the result counts there are in so many bytes.
+    pub fn count(&self, bytes: usize) -> usize {
+        match self {
+            Asked::Checkpoints => bytes / NUMBER,
+            _ => bytes,
+        }
+    }
+
+    pub fn is_list(&self) -> bool {
+        match self {
+            Asked::List => true,
+            Asked::At(_, asked) => asked.is_list(),
+            _ => false,
+        }
+    }
+}
+
+impl fmt::Display for Asked {
+    fn fmt(&self, f: &mut fmt::Formatter) -> fmt::Result {
+        match self {
+            Asked::Call(call) => call.fmt(f),
+            Asked::At(xid, asked) => write!(f, "{asked} at checkpoint {xid}"),
+            other => f.write_str(other.name()),
         }
     }
 }
 
 impl fmt::Display for Question {
     fn fmt(&self, f: &mut fmt::Formatter) -> fmt::Result {
-        match &self.asked {
-            Asked::Call(call) => write!(f, "volume {}, {call}", self.volume)?,
-            other => write!(f, "volume {}, {}", self.volume, other.name())?,
-        }
+        write!(f, "volume {}, {}", self.volume, self.asked)?;
         write!(f, ", into {} bytes", self.room)
     }
 }
@@ -76,15 +114,18 @@ pub fn told_by(rule: Rule, image: &Image, q: &Question) -> Option<Told> {
             Answer::Any | Answer::Panic(_) => None,
         },
         Asked::List => list(rule, image, q.volume, q.room),
+        Asked::Checkpoints => numbers(image, q.room),
+        Asked::At(xid, asked) => told_by(rule, &image_at(image, *xid, 1), &Question { asked: (**asked).clone(), ..*q }),
     }
 }
 
 /// Of the directories that the call reads.
 pub fn account(rule: Rule, image: &Image, q: &Question) -> Account {
     match &q.asked {
-        Asked::Open => Account::None,
+        Asked::Open | Asked::Checkpoints => Account::None,
         Asked::Call(call) => expected::told_by(rule, image, q.volume, call).account,
         Asked::List => walk::told_by(rule, image, q.volume).account,
+        Asked::At(xid, asked) => account(rule, &image_at(image, *xid, 1), &Question { asked: (**asked).clone(), ..*q }),
     }
 }
 
@@ -97,6 +138,18 @@ fn open(image: &Image, room: usize) -> Option<Told> {
         answer::Answer::Refused(n) => Some(Told::Refused(n)),
         answer::Answer::Overflow | answer::Answer::Panic(_) => None,
     }
+}
+
+fn numbers(image: &Image, room: usize) -> Option<Told> {
+    let numbers = match &image.part {
+        Ok(part) if outside(part).is_some() => return None,
+        Ok(part) => spoiled::numbers(part)?,
+        Err(number) => Err(*number),
+    };
+    Some(match numbers {
+        Ok(list) => within(list.iter().flat_map(|n| n.to_le_bytes()).collect(), room),
+        Err(number) => Told::Refused(number),
+    })
 }
 
 fn list(rule: Rule, image: &Image, volume: u64, room: usize) -> Option<Told> {

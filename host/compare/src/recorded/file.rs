@@ -1,8 +1,8 @@
 //! The form of the file.
 //!
 //! A record is: op and refusal (1 byte each), volume, a, b (8 each), the buffer's length, the count that is answered, the
-//! CRC-32C register of all the buffer after the call, the input's length (4 each), the input: a path, or a name's kind
-//! (8). Numbers are little-endian. An op of 0 ends the file.
+//! CRC-32C register of all the buffer after the call, the input's length (4 each), the input: a path, or a name's kind or
+//! a transaction number (8); a transaction number is a where a says nothing else. Numbers are little-endian. An op of 0 ends the file.
 
 use sticks::sums::crc32c;
 
@@ -98,7 +98,20 @@ fn coded(asked: &Asked) -> Option<(u8, u64, u64, Vec<u8>)> {
         Asked::Call(Call::Extent { id, place }) => (9, *id, *place, none),
         Asked::List => (10, 0, 0, none),
         Asked::Call(Call::Replaced { kind, id, place }) => (11, *id, *place, kind.to_le_bytes().to_vec()),
+        Asked::Checkpoints => (12, 0, 0, none),
+        Asked::At(xid, asked) => return coded_at(*xid, asked),
         Asked::Call(Call::Entries { .. } | Call::XattrBytes { .. }) => return None,
+    })
+}
+
+/// The same at a checkpoint.
+fn coded_at(xid: u64, asked: &Asked) -> Option<(u8, u64, u64, Vec<u8>)> {
+    Some(match asked {
+        Asked::Open => (13, xid, 0, Vec::new()),
+        Asked::Call(Call::Lookup { path }) => (14, xid, 0, path.clone()),
+        Asked::List => (15, xid, 0, Vec::new()),
+        Asked::Call(Call::Read { id, offset, .. }) => (16, *id, *offset, xid.to_le_bytes().to_vec()),
+        _ => return None,
     })
 }
 
@@ -107,7 +120,7 @@ pub fn answer(q: &Question, told: &Told) -> (u8, u32, u32) {
     let sum = crc32c(!0, &left(q, told));
     match told {
         Told::Refused(n) => (*n as u8, 0, sum),
-        Told::Bytes(bytes) => (0, bytes.len() as u32, sum),
+        Told::Bytes(bytes) => (0, q.asked.count(bytes.len()) as u32, sum),
     }
 }
 
@@ -116,7 +129,7 @@ fn left(q: &Question, told: &Told) -> Vec<u8> {
     let mut buffer = pattern(q.room);
     match told {
         Told::Bytes(bytes) => buffer[..bytes.len()].copy_from_slice(bytes),
-        Told::Refused(_) if q.asked == Asked::List => buffer.fill(0),
+        Told::Refused(_) if q.asked.is_list() => buffer.fill(0),
         Told::Refused(_) => {}
     }
     buffer

@@ -51,6 +51,10 @@ fn lay(mut parts: &[u8], buffer: &mut [u8]) -> Result<(), String> {
     Ok(())
 }
 
+fn eight(input: &[u8]) -> Result<u64, String> {
+    input.try_into().map(u64::from_le_bytes).map_err(|_| format!("a number of {} bytes", input.len()))
+}
+
 fn asked(op: u8, a: u64, b: u64, room: usize, input: &[u8]) -> Result<Asked, String> {
     Ok(match op {
         3 => Asked::Open,
@@ -61,10 +65,12 @@ fn asked(op: u8, a: u64, b: u64, room: usize, input: &[u8]) -> Result<Asked, Str
         8 => Asked::Call(Call::Link { id: a }),
         9 => Asked::Call(Call::Extent { id: a, place: b }),
         10 => Asked::List,
-        11 => {
-            let kind = input.try_into().map_err(|_| format!("a kind of {} bytes", input.len()))?;
-            Asked::Call(Call::Replaced { kind: u64::from_le_bytes(kind), id: a, place: b })
-        }
+        11 => Asked::Call(Call::Replaced { kind: eight(input)?, id: a, place: b }),
+        12 => Asked::Checkpoints,
+        13 => Asked::At(a, Box::new(Asked::Open)),
+        14 => Asked::At(a, Box::new(Asked::Call(Call::Lookup { path: input.to_vec() }))),
+        15 => Asked::At(a, Box::new(Asked::List)),
+        16 => Asked::At(eight(input)?, Box::new(Asked::Call(Call::Read { id: a, offset: b, length: room }))),
         _ => return Err(format!("no op {op}")),
     })
 }

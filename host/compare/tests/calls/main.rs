@@ -1,5 +1,5 @@
 //! The calls on volumes written down from document 01 agree with the oracle on every stick, and each
-//! mistake that a port might make in them is found. Opening is the oracle's here: `mistakes.rs` has it.
+//! mistake that a port might make in them is found. Opening is the oracle's here: the tests of opening have it.
 
 #![cfg(oracle)]
 

@@ -10,6 +10,7 @@ mod patched;
 mod proper;
 mod ring;
 mod sample;
+mod saves;
 mod shape;
 
 use crate::checkpoint::Ring;
@@ -55,6 +56,8 @@ pub struct Plan {
     /// Whether object maps hold older and later versions.
     pub history: bool,
     pub volumes: Vec<Volume>,
+    /// Earlier states, oldest first.
+    pub saves: Vec<Save>,
     pub slots: Vec<u64>,
     pub max_file_systems: u32,
     pub map: Shape,
@@ -65,6 +68,13 @@ pub struct Plan {
     pub tail: usize,
     pub odd: Option<Odd>,
     pub random: Random,
+}
+
+/// The volumes as of a transaction. One that is not there was made later.
+#[derive(Clone, Debug)]
+pub struct Save {
+    pub xid: u64,
+    pub volumes: Vec<Volume>,
 }
 
 impl Plan {
@@ -118,6 +128,15 @@ impl Plan {
         plan
     }
 
+    /// The same stick after earlier saves, each with a checkpoint of its own.
+    pub fn saved(&self) -> Plan {
+        let mut r = Random::new(self.seed.rotate_left(16));
+        let saves = saves::draw(self, &mut r);
+        let xids: Vec<u64> = saves.iter().map(|s| s.xid).chain([self.xid]).collect();
+        let ring = ring::saved(&xids, self.odd == Some(Odd::NoCheckpoint), &mut r);
+        Plan { saves, ring, ..self.clone() }
+    }
+
     /// All else but what is given is drawn.
     fn around(volumes: Vec<Volume>, seed: u64, block_size: usize, xid: u64, odd: Option<Odd>, mut r: Random) -> Plan {
         let (slots, max_file_systems) = slots(&volumes, &mut r);
@@ -131,6 +150,7 @@ impl Plan {
             stale_zero: r.chance(1, 2),
             history: true,
             volumes,
+            saves: Vec::new(),
             slots,
             max_file_systems,
             map: shape::map(&mut r),
@@ -159,6 +179,7 @@ impl Plan {
             history: true,
             slots: vec![1026],
             volumes,
+            saves: Vec::new(),
             max_file_systems: 100,
             map: shape::map(&mut r),
             spare: 0,

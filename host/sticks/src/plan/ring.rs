@@ -88,6 +88,34 @@ fn break_one(c: &mut Checkpoint, blocks: u32, r: &mut Random) {
     c.fault = Some(fault);
 }
 
+/// A sound checkpoint of each number among others, sound and broken, of the same and of other numbers. With `none`, none is
+/// sound.
+pub fn saved(xids: &[u64], none: bool, r: &mut Random) -> Ring {
+    let blocks = r.pick(&[8, 12, 20, 40]);
+    let (mut left, mut checkpoints) = (blocks, Vec::new());
+    for (i, &xid) in xids.iter().enumerate() {
+        let others = (xids.len() - 1 - i) as u32;
+        let c = Checkpoint { current: true, ..checkpoint(xid, left - others, r) };
+        left -= c.blocks();
+        checkpoints.push(c);
+    }
+    while left > 0 && r.chance(7, 8) {
+        let xid = r.pick(xids);
+        let mut c = checkpoint(neighbour(xid, r), left, r);
+        left -= c.blocks();
+        c.current = r.chance(1, 4);
+        if r.chance(1, 2) {
+            break_one(&mut c, blocks, r);
+        }
+        checkpoints.push(c);
+    }
+    if none {
+        checkpoints.iter_mut().filter(|c| c.fault.is_none()).for_each(|c| break_one(c, blocks, r));
+    }
+    r.shuffle(&mut checkpoints);
+    Ring { blocks, start: r.below(u64::from(blocks)) as u32, checkpoints }
+}
+
 /// A ring full of sound checkpoints of one map each, the newest at the end.
 pub fn full(xid: u64, blocks: u32) -> Ring {
     let pairs = u64::from(blocks / 2);

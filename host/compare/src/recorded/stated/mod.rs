@@ -1,6 +1,7 @@
-//! Document 01's cases and those of partition tables, patched names and directory keys, each with what the papers say of
-//! it, and small sticks that show them.
+//! Document 01's cases and those of partition tables, patched names, directory keys and checkpoints, each with what the
+//! papers say of it, and small sticks that show them.
 
+mod checkpoints;
 mod keys;
 mod listing;
 mod names;
@@ -65,6 +66,16 @@ impl Stated {
         Stated::new(Asked::Call(call), room, said)
     }
 
+    pub fn checkpoints(said: Said) -> Stated {
+        Stated::new(Asked::Checkpoints, ROOM, said)
+    }
+
+    /// The same at the checkpoint of a number.
+    pub fn at(mut self, xid: u64) -> Stated {
+        self.question.asked = Asked::At(xid, Box::new(self.question.asked));
+        self
+    }
+
     pub fn of_volume(mut self, volume: u64) -> Stated {
         self.question.volume = volume;
         self
@@ -116,6 +127,11 @@ pub fn of_names() -> Vec<Group> {
 /// Those of request 03.
 pub fn of_keys() -> Vec<Group> {
     keys::groups()
+}
+
+/// Those of request 04.
+pub fn of_checkpoints() -> Vec<Group> {
+    checkpoints::groups()
 }
 
 /// An error tells each case that the oracle answers otherwise.
