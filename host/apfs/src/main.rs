@@ -7,12 +7,14 @@
 //! apfs cat IMAGE PATH             a file's bytes
 //! apfs xattr IMAGE PATH [NAME]    the attributes; with a name, its bytes
 //! apfs list IMAGE                 the listing of a whole volume
+//! apfs checkpoints IMAGE          the transaction numbers of the checkpoints, one a line, the latest first
 //! ```
 //!
 //! An image is of a stick with a GUID partition table, or of an APFS partition alone. `--volume N` names another volume
-//! than the first, which is 0. Refusals go to standard error, and the exit status is then 1; it is 2 where the arguments
-//! are wrong. A listing has as much room as it needs, up to 1 GiB or eight times the partition; sparse files may ask for
-//! more, which is refusal 6.
+//! than the first, which is 0, and `--checkpoint N` another checkpoint than the latest, so that the stick is read as it
+//! was then. Refusals go to standard error, and the exit status is then 1; it is 2 where the arguments are wrong. A
+//! listing has as much room as it needs, up to 1 GiB or eight times the partition; sparse files may ask for more, which
+//! is refusal 6.
 //!
 //! Behind a name of which bytes are damaged `ls`, `stat` and `xattr` say how many parts of it are shown as U+FFFD, as in
 //! `(2 damaged)`; a U+FFFD that was typed is none of them.
@@ -23,34 +25,40 @@ use std::ffi::OsString;
 use std::io::{stdout, BufWriter, ErrorKind, Write};
 use std::process::exit;
 
+use apfs::calls::Which;
 use tool::ask::Asked;
 use tool::failure::Failure;
-use tool::{cat, list, ls, sample, stat, usage, xattr};
+use tool::{cat, checkpoints, list, ls, sample, stat, usage, xattr};
 
+#[derive(Default)]
 struct Arguments {
+    checkpoint: Option<u64>,
     volume: Option<u64>,
     words: Vec<OsString>,
 }
 
 fn arguments() -> Option<Arguments> {
-    let (mut volume, mut words) = (None, Vec::new());
-    let mut args = std::env::args_os().skip(1);
+    let number = |word: Option<OsString>| word?.to_str()?.parse().ok();
+    let (mut out, mut args) = (Arguments::default(), std::env::args_os().skip(1));
     while let Some(word) = args.next() {
         match word.to_str() {
-            Some("--volume") => volume = Some(args.next()?.to_str()?.parse().ok()?),
+            Some("--checkpoint") => out.checkpoint = Some(number(args.next())?),
+            Some("--volume") => out.volume = Some(number(args.next())?),
             Some(option) if option.starts_with("--") && option != "--help" => return None,
-            _ => words.push(word),
+            _ => out.words.push(word),
         }
     }
-    Some(Arguments { volume, words })
+    Some(out)
 }
 
 fn run(a: &Arguments, out: &mut dyn Write) -> Result<(), Failure> {
-    let asked = |image: &OsString| Asked::of(image, a.volume.unwrap_or(0));
+    let asked = |image: &OsString| Asked::of(image, Which { checkpoint: a.checkpoint, volume: a.volume.unwrap_or(0) });
+    let plain = a.checkpoint.is_none() && a.volume.is_none();
     let (name, words) = a.words.split_first().ok_or_else(|| Failure::Usage(usage::all()))?;
     match (name.to_str().unwrap_or_default(), words) {
         ("help" | "--help", []) => Ok(writeln!(out, "{}", usage::all())?),
-        ("sample", [file]) if a.volume.is_none() => sample::run(file, out),
+        ("sample", [file]) if plain => sample::run(file, out),
+        ("checkpoints", [image]) if plain => checkpoints::run(image, out),
         ("ls", [image]) => ls::run(&asked(image)?, b"", out),
         ("ls", [image, path]) => ls::run(&asked(image)?, path.as_encoded_bytes(), out),
         ("stat", [image]) => stat::container(&asked(image)?, a.volume.is_some(), out),

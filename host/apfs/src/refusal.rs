@@ -41,12 +41,20 @@ pub fn advice(number: u64) -> &'static str {
         10 => "`apfs ls` and `apfs cat` read what lies deeper than 64 directories",
         11 => "give the image of a whole stick with a GUID partition table, or of an APFS partition from its first byte on",
         12 => "copy the stick again, whole; a stick without an APFS partition is not read",
-        13 => "give the transaction number of a checkpoint that is there",
+        13 => "`apfs checkpoints` shows the numbers that are there",
         14 => "read the volume file by file",
         15 => "give a listing as it was written",
         16 => "give each id and stream one content, and the entries in the order of their keys",
         17 => "give a longer buffer, or a smaller listing",
         18 => "give another seed, and 1 to 64 nodes",
         _ => "report it",
+    }
+}
+
+/// The same where a checkpoint was asked for: to repair a stick is to write on it, over what is left of earlier ones.
+pub fn advice_at(number: u64) -> &'static str {
+    match number {
+        2 | 8 => "copy the stick again, or try another checkpoint: what this one held may have been written over",
+        _ => advice(number),
     }
 }

@@ -1,134 +1,61 @@
-//! The port's calls, with buffers that grow until the answer fits.
+//! The port's calls on a volume, at one checkpoint.
 
 use std::ffi::OsStr;
 
 use apfs::calls::{self, Which};
 use apfs::refusal;
 
+use crate::tool::answer::{bytes, bytes_from, count, parsed, LONGEST};
 use crate::tool::attribute::Attribute;
 use crate::tool::container::{Container, Volume};
 use crate::tool::failure::Failure;
-use crate::tool::image;
 use crate::tool::name::{damaged, Name};
 use crate::tool::node::{Entry, Node};
-use crate::tool::part::Part;
 use crate::tool::shown::shown;
 use crate::tool::size;
+use crate::tool::stick::{at, Stick};
 
 /// What a damaged part of a name reads as.
 const REPLACEMENT: char = '\u{fffd}';
-const CORRUPT: u64 = 2;
 const NOT_FOUND: u64 = 4;
 const PATH_NOT_UTF8: u64 = 5;
-const TOO_SHORT: u64 = 6;
-const FIRST: usize = 4096;
 /// Each call for entries goes through the whole directory, so it has room for many.
 const ENTRIES: usize = 1 << 20;
-/// No line without contents is longer.
-const LONGEST: usize = 1 << 24;
 /// A listing of any image has so much room at least, and in a larger image's the image's so many times.
 const LISTING: usize = 1 << 30;
 const TIMES: usize = 8;
 
 pub struct Asked {
-    /// The image file's name, for messages.
-    pub file: String,
-    stick: Vec<u8>,
-    part: Part,
+    pub stick: Stick,
+    /// The image file's name, and the checkpoint if one was asked for, for messages.
+    pub place: String,
+    checkpoint: Option<u64>,
     pub volume: u64,
     pub container: Container,
 }
 
-type Call<'c> = &'c dyn Fn(&mut [u8]) -> i64;
-
-/// The bytes written, or the refusal's number.
-pub fn count(n: i64) -> Result<usize, u64> {
-    usize::try_from(n).map_err(|_| n.unsigned_abs())
-}
-
-/// A call's answer, in a buffer of `longest` bytes at most, or the refusal's number.
-fn bytes(longest: usize, call: Call) -> Result<Vec<u8>, u64> {
-    bytes_from(FIRST, longest, call)
-}
-
-/// The same, the first buffer being of `length` bytes.
-fn bytes_from(mut length: usize, longest: usize, call: Call) -> Result<Vec<u8>, u64> {
-    loop {
-        let mut out = zeros(length).ok_or(TOO_SHORT)?;
-        match count(call(&mut out)) {
-            Err(TOO_SHORT) if length < longest => length = longest.min(length.saturating_mul(4)),
-            n => {
-                out.truncate(n?);
-                return Ok(out);
-            }
-        }
-    }
-}
-
-/// None where there is no such room.
-fn zeros(n: usize) -> Option<Vec<u8>> {
-    let mut out = Vec::new();
-    out.try_reserve_exact(n).ok()?;
-    out.resize(n, 0);
-    Some(out)
-}
-
-fn parsed<T>(what: &str, line: &[u8], parse: fn(&str) -> Option<T>) -> Result<T, Failure> {
-    let read = std::str::from_utf8(line).ok().and_then(parse);
-    read.ok_or_else(|| Failure::Other(format!("{what}: an answer of no known form")))
-}
-
-/// The stick is given whole, as only then is a part without a container told from an image without a table.
-fn opened(file: &str, stick: &[u8], part: &Part) -> Result<Container, Failure> {
-    let what = match part.offset {
-        0 => file.to_string(),
-        offset => format!("{file}: partition at byte {offset}"),
-    };
-    let line = bytes(LONGEST, &|out| apfs::open(stick, out)).map_err(|n| match n {
-        NOT_FOUND => Failure::told(
-            &what,
-            n,
-            "no APFS container begins here, though the partition is of that type",
-            refusal::advice(CORRUPT),
-        ),
-        n => Failure::refused(&what, n),
-    })?;
-    parsed(&what, &line, Container::parse)
-}
-
 impl Asked {
     /// Opens the container; the volume is opened when something of it is asked for.
-    pub fn of(file: &OsStr, volume: u64) -> Result<Asked, Failure> {
-        let (file, stick) = (image::name(file), image::read(file)?);
-        let line = bytes(LONGEST, &|out| apfs::part(&stick, out)).map_err(|n| Failure::refused(&file, n))?;
-        let part = parsed(&file, &line, Part::parse)?;
-        if stick.get(part.range()).is_none() {
-            return Err(Failure::Other(format!("{file}: a part that is not in the image")));
-        }
-        let container = opened(&file, &stick, &part)?;
-        Ok(Asked { file, stick, part, volume, container })
+    pub fn of(file: &OsStr, which: Which) -> Result<Asked, Failure> {
+        let (Which { checkpoint, volume }, stick) = (which, Stick::of(file)?);
+        let container = stick.open(checkpoint)?;
+        Ok(Asked { place: at(&stick.file, checkpoint), stick, checkpoint, volume, container })
     }
 
-    /// What the calls are given: a part that opens is its own part, so the table need not be read in each call.
     fn image(&self) -> &[u8] {
-        &self.stick[self.part.range()]
-    }
-
-    /// The container's partition, where it is not the whole image.
-    pub fn partition(&self) -> Option<&Part> {
-        (self.part.length < self.stick.len()).then_some(&self.part)
+        self.stick.container()
     }
 
     pub fn refused(&self, what: &str, number: u64) -> Failure {
-        Failure::refused(format!("{}: {what}", self.file), number)
+        Failure::refused_at(self.checkpoint, format!("{}: {what}", self.place), number)
     }
 
     fn which(&self, volume: u64) -> Which {
-        Which::latest(volume)
+        Which { checkpoint: self.checkpoint, volume }
     }
 
     fn line<T>(&self, what: &str, line: &[u8], parse: fn(&str) -> Option<T>) -> Result<T, Failure> {
-        parsed(&format!("{}: {what}", self.file), line, parse)
+        parsed(&format!("{}: {what}", self.place), line, parse)
     }
 
     /// Whether a volume opens: a path that is not UTF-8 is refused after that, and before anything in the volume is read.
@@ -140,11 +67,12 @@ impl Asked {
     }
 
     pub fn open_volume(&self) -> Result<(), Failure> {
-        let what = format!("{}: volume {}", self.file, self.volume);
+        let what = format!("volume {}", self.volume);
         if self.volume >= self.container.volumes.len() as u64 {
+            let what = format!("{}: {what}", self.place);
             return Err(Failure::told(what, NOT_FOUND, "there is no such volume", self.container.which()));
         }
-        self.opens(self.volume).map_err(|n| Failure::refused(what, n))
+        self.opens(self.volume).map_err(|n| self.refused(&what, n))
     }
 
     pub fn lookup(&self, path: &[u8]) -> Result<Node, Failure> {
@@ -153,7 +81,7 @@ impl Asked {
         let line = bytes(LONGEST, &|out| calls::lookup(self.image(), self.which(self.volume), path, out));
         let line = line.map_err(|n| match n {
             NOT_FOUND => Failure::told(
-                format!("{}: {what}", self.file),
+                format!("{}: {what}", self.place),
                 n,
                 "there is no such file or directory",
                 refusal::advice(n),
@@ -234,7 +162,7 @@ impl Asked {
     /// The volume's listing.
     pub fn list(&self) -> Result<Vec<u8>, Failure> {
         self.open_volume()?;
-        let longest = self.part.length.saturating_mul(TIMES).max(LISTING);
+        let longest = self.image().len().saturating_mul(TIMES).max(LISTING);
         let text = bytes(longest, &|out| calls::list(self.image(), self.which(self.volume), out));
         text.map_err(|n| self.refused(&format!("listing of volume {}", self.volume), n))
     }

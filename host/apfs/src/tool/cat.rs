@@ -12,7 +12,7 @@ const PIECE: usize = 1 << 20;
 pub fn run(asked: &Asked, path: &[u8], out: &mut dyn Write) -> Result<(), Failure> {
     let node = asked.lookup(path)?;
     let what = shown_path(path);
-    let no_file = |words: String| Err(Failure::Other(format!("{}: {what}: {words}", asked.file)));
+    let no_file = |words: String| Err(Failure::Other(format!("{}: {what}: {words}", asked.place)));
     match node.kind() {
         DIRECTORY => return no_file("a directory; `apfs ls` shows what it holds".into()),
         LINK => {

@@ -35,6 +35,12 @@ impl Failure {
         Failure::told(what, number, refusal::words(number), refusal::advice(number))
     }
 
+    /// The same of what was read at a checkpoint, the latest where none was asked for.
+    pub fn refused_at(checkpoint: Option<u64>, what: impl Into<String>, number: u64) -> Failure {
+        let advice = if checkpoint.is_some() { refusal::advice_at } else { refusal::advice };
+        Failure::told(what, number, refusal::words(number), advice(number))
+    }
+
     /// In other words than those of every refusal of that number.
     pub fn told(what: impl Into<String>, number: u64, words: impl Into<String>, advice: impl Into<String>) -> Failure {
         Failure::Refused(Refused { what: what.into(), number, words: words.into(), advice: advice.into() })

@@ -1,8 +1,10 @@
 //! The parts of the command line tool.
 
+mod answer;
 pub mod ask;
 mod attribute;
 pub mod cat;
+pub mod checkpoints;
 mod container;
 mod date;
 pub mod failure;
@@ -16,5 +18,6 @@ pub mod sample;
 mod shown;
 mod size;
 pub mod stat;
+mod stick;
 pub mod usage;
 pub mod xattr;

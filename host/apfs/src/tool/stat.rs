@@ -21,7 +21,7 @@ pub fn container(asked: &Asked, one: bool, out: &mut dyn Write) -> Result<(), Fa
     if one {
         asked.open_volume()?;
     }
-    if let Some(p) = asked.partition() {
+    if let Some(p) = asked.stick.partition() {
         field(out, "partition", &format!("{} bytes from byte {} on", p.length, p.offset))?;
     }
     let c = &asked.container;

@@ -1,19 +1,20 @@
 //! How to call it.
 
-const COMMANDS: [(&str, &str, &str); 6] = [
+const COMMANDS: [(&str, &str, &str); 7] = [
     ("sample", "FILE", "writes a small stick to try the others on"),
     ("ls", "IMAGE [PATH]", "what a directory holds: kind, size, name"),
     ("stat", "IMAGE [PATH]", "the container and its volumes; with a path, an inode's fields"),
     ("cat", "IMAGE PATH", "a file's bytes"),
     ("xattr", "IMAGE PATH [NAME]", "the attributes: flags, form, size, name; with a name, its bytes"),
     ("list", "IMAGE", "the listing of a whole volume"),
+    ("checkpoints", "IMAGE", "the transaction numbers of the checkpoints, one a line, the latest first"),
 ];
 
 /// Of one command, in a line.
 pub fn of(name: &str) -> String {
     match COMMANDS.iter().find(|c| c.0 == name) {
-        Some(("sample", words, _)) => format!("usage: apfs sample {words}"),
-        Some((name, words, _)) => format!("usage: apfs {name} {words} [--volume N]"),
+        Some((name @ ("sample" | "checkpoints"), words, _)) => format!("usage: apfs {name} {words}"),
+        Some((name, words, _)) => format!("usage: apfs {name} {words} [--volume N] [--checkpoint N]"),
         None => all(),
     }
 }
@@ -22,6 +23,7 @@ pub fn all() -> String {
     let lines: Vec<String> =
         COMMANDS.iter().map(|(name, words, what)| format!("  {:25} {what}", format!("{name} {words}"))).collect();
     let end = "IMAGE is of a stick with a GUID partition table, or of an APFS partition alone.\n\
-               Each but sample takes --volume N, of the volumes that `stat IMAGE` shows; else it is 0.";
+               Each but sample and checkpoints takes --volume N, of the volumes that `stat IMAGE` shows; else it is 0.\n\
+               They take --checkpoint N too, of those that `checkpoints IMAGE` shows; else it is the latest.";
     format!("usage: apfs COMMAND ..\n{}\n{end}", lines.join("\n"))
 }

@@ -57,5 +57,5 @@ pub fn bytes(asked: &Asked, path: &[u8], name: &[u8], out: &mut dyn Write) -> Re
     }
     let name = shown(&String::from_utf8_lossy(name));
     let words = format!("no attribute {name}; `apfs xattr` without a name shows those that are there");
-    Err(refused.unwrap_or_else(|| Failure::Other(format!("{}: {what}: {words}", asked.file))))
+    Err(refused.unwrap_or_else(|| Failure::Other(format!("{}: {what}: {words}", asked.place))))
 }

@@ -6,25 +6,25 @@ use sticks::Plan;
 use crate::image::{out, Image};
 
 /// Stored in place of é by a recorder that knows no UTF-8.
-const DAMAGED: &[u8] = b"caf\xe9.txt";
+pub const DAMAGED: &[u8] = b"caf\xe9.txt";
 const TYPED: &[u8] = "caf\u{fffd}.txt".as_bytes();
 
 /// The sample with some of its names changed.
-fn changed(name: &str, change: fn(&mut Contents)) -> Image {
+pub fn changed(name: &str, change: fn(&mut Contents)) -> Image {
     let mut plan = Plan::sample();
     change(&mut plan.volumes[0].contents);
     Image::planned(name, plan)
 }
 
 /// The entry that leads to an inode, and the inode's own name.
-fn renamed(c: &mut Contents, id: u64, name: &[u8]) {
+pub fn renamed(c: &mut Contents, id: u64, name: &[u8]) {
     let entry = c.files.iter_mut().flat_map(|f| &mut f.entries).find(|e| e.id == id).expect("an entry");
     entry.name = name.to_vec();
     let file = c.files.iter_mut().find(|f| f.inode.id == id).expect("a file");
     file.inode.fields[0] = Field { kind: NAME_FIELD, flags: 2, data: [name, b"\0"].concat() };
 }
 
-fn target(c: &mut Contents, text: &[u8]) {
+pub fn target(c: &mut Contents, text: &[u8]) {
     let mut attributes = c.files.iter_mut().flat_map(|f| &mut f.attributes);
     let link = attributes.find(|a| a.name == LINK_ATTRIBUTE).expect("a link");
     link.data = Data::Embedded(text.to_vec());

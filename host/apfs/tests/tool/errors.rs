@@ -20,7 +20,7 @@ fn volumes(n: u64) -> Plan {
 fn a_short_file_is_named() {
     let image = Image::of("short", b"APFS?");
     let words = "apfs: FILE: the image ends too soon (refusal 1); copy the stick again, whole\n";
-    for command in ["ls", "stat", "list"] {
+    for command in ["ls", "stat", "list", "checkpoints"] {
         assert_eq!(image.told(&[command], &[]), words);
     }
     assert_eq!(image.told(&["cat"], &["a"]), words);
@@ -118,20 +118,16 @@ fn paths_that_lead_nowhere_are_told() {
 #[test]
 fn wrong_arguments_are_told() {
     let image = Image::of("arguments", b"");
-    let usage = |words: &[&str], path: &[&str]| {
-        let o = image.run(words, path);
-        assert_eq!((o.status.code(), o.stdout.len()), (Some(2), 0), "{words:?} {o:?}");
-        String::from_utf8(o.stderr).expect("text")
-    };
-    assert_eq!(usage(&["cat"], &[]), "usage: apfs cat IMAGE PATH [--volume N]\n");
-    assert_eq!(usage(&["list"], &["path"]), "usage: apfs list IMAGE [--volume N]\n");
-    assert_eq!(usage(&["ls"], &["a", "b"]), "usage: apfs ls IMAGE [PATH] [--volume N]\n");
-    assert_eq!(usage(&["xattr"], &[]), "usage: apfs xattr IMAGE PATH [NAME] [--volume N]\n");
-    assert_eq!(usage(&["sample"], &["b"]), "usage: apfs sample FILE\n");
+    let options = "[--volume N] [--checkpoint N]";
+    assert_eq!(image.usage(&["cat"], &[]), format!("usage: apfs cat IMAGE PATH {options}\n"));
+    assert_eq!(image.usage(&["list"], &["path"]), format!("usage: apfs list IMAGE {options}\n"));
+    assert_eq!(image.usage(&["ls"], &["a", "b"]), format!("usage: apfs ls IMAGE [PATH] {options}\n"));
+    assert_eq!(image.usage(&["xattr"], &[]), format!("usage: apfs xattr IMAGE PATH [NAME] {options}\n"));
+    assert_eq!(image.usage(&["sample"], &["b"]), "usage: apfs sample FILE\n");
     for words in [&["lost"][..], &["--volume", "x", "ls"], &["--volume", "-1", "ls"], &["--volume"], &["--all", "ls"]] {
-        assert!(usage(words, &[]).starts_with("usage: apfs COMMAND ..\n"), "{words:?}");
+        assert!(image.usage(words, &[]).starts_with("usage: apfs COMMAND ..\n"), "{words:?}");
     }
-    assert_eq!(usage(&["sample", "--volume", "1"], &[]), "usage: apfs sample FILE\n");
+    assert_eq!(image.usage(&["sample", "--volume", "1"], &[]), "usage: apfs sample FILE\n");
 }
 
 #[test]

@@ -40,6 +40,13 @@ impl Image {
         assert_eq!((o.status.code(), o.stdout.len()), (Some(1), 0), "{o:?}");
         String::from_utf8(o.stderr).expect("text").replace(&*self.0.to_string_lossy(), "FILE")
     }
+
+    /// How the tool is to be called, where it was not.
+    pub fn usage(&self, words: &[&str], path: &[&str]) -> String {
+        let o = self.run(words, path);
+        assert_eq!((o.status.code(), o.stdout.len()), (Some(2), 0), "{words:?} {o:?}");
+        String::from_utf8(o.stderr).expect("text")
+    }
 }
 
 impl Drop for Image {

@@ -2,6 +2,7 @@
 
 #![cfg(feature = "calls")]
 
+mod checkpoints;
 mod damaged;
 mod errors;
 mod image;

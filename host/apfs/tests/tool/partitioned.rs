@@ -72,7 +72,10 @@ fn a_partition_without_a_container_is_told() {
         "no APFS container begins here, though the partition is of that type (refusal 4); copy the stick again, \
                  or have a Mac repair it\n";
     let want = format!("apfs: FILE: partition at byte {FIRST}: {words}");
-    assert_eq!(Image::of("no-container-in-table", &image).told(&["ls"], &[]), want);
+    let stick = Image::of("no-container-in-table", &image);
+    for words in [&["ls"][..], &["checkpoints"], &["ls", "--checkpoint", "100000"]] {
+        assert_eq!(stick.told(words, &[]), want);
+    }
     let short = around(&container()[..512]);
     let told = Image::of("short-partition", &short).told(&["ls"], &[]);
     assert!(
