@@ -17,13 +17,15 @@ use Rattle.node.specs.declared.layout.Info.{Info}
 use Rattle.lookup.specs.Path.{Through, atOnce, on, andThen, counted}
 use Rattle.lookup.specs.Read.{nodeAt}
 use Rattle.lookup.specs.Lookup.{Step, nothing, found, into, upperOf, hitStep, childStep, stepAt, walked, lookNode, lookChild, look, lookupLe}
-use Rattle.lookup.specs.Map.{mappingOf, targetFor, lookIn, mapLookup}
+use Rattle.lookup.specs.Map.{mappingOf, targetFor, lookIn, mapLookup, blockFor, blockIn, resolve, resolveAt}
 use Rattle.lookup.specs.Sorted.{Sorted, Parts}
 use Rattle.lookup.specs.declared.descent.Target.{Target}
 use Rattle.lookup.specs.declared.descent.Hit.{Hit}
 use Rattle.lookup.specs.declared.map.Map.{Map}
+use Rattle.lookup.specs.declared.map.MapValue.{MapValue}
+use Rattle.lookup.specs.declared.map.Resolve.the-variants.{Mapped}
 use Rattle.lookup.proofs.Theorems.{sorted-parts}
-use Rattle.lookup_walk.specs.Walk.{Item, Tree, leaf, index, Branches, items, itemsOf, Firsts, itemsFrom, childNode, branchesFrom, nodeTree, childTree, treeAt, WellFormed, lastIn, walkLe}
+use Rattle.lookup_walk.specs.Walk.{Item, Tree, leaf, index, Branches, items, itemsOf, Firsts, itemsFrom, childNode, branchesFrom, nodeTree, childTree, treeAt, WellFormed, lastIn, walkLe, mapSlow}
 use Rattle.lookup_walk.proofs.Climbs.{Climbs, ascends-climbs}
 use Rattle.lookup_walk.proofs.NodeKeys.{sorted-of, climb-keys, climb-branches, keysOf, branchKeys}
 use Rattle.lookup_walk.proofs.OneNode.{leaf-keys, leaf-last, leaf-none, fork-keys, Last, fork-last, fork-none}
@@ -126,18 +128,27 @@ module _ (r : Reader) (b : List ℕ) (info : Info) (root : Node) (w : WellFormed
   unfolding walkLe
   never-refused t s = (lastIn t none (items (w .tree)), quick-is-slow t s ∙ rw (w .reads))
 
--- the same of what an object map says of an object
-module _ (r : Reader) (b : List ℕ) (m : Map) (w : WellFormed r b (m .info) (m .root)) where
-  said : (oid : ℕ) (c : Through (Option Hit)) → andThen c (λ o. atOnce (mappingOf r b oid o)) .answer ≡ (c .answer >>= mappingOf r b oid)
-  unfolding andThen
-  said oid c = of (c .answer)
-    where
-      of : (a : Answer (Option Hit)) → on a (λ o. atOnce (mappingOf r b oid o)) .answer ≡ (a >>= mappingOf r b oid)
-      of (got o) = refl
-      of (no e) = refl
+-- what comes of an answer behind a path
+said : {A B : Type 0} (f : A → Answer B) (c : Through A) → andThen c (λ x. atOnce (f x)) .answer ≡ (c .answer >>= f)
+unfolding andThen
+said f c = of (c .answer)
+  where
+    of : (a : Answer _) → on a (λ x. atOnce (f x)) .answer ≡ (a >>= f)
+    of (got x) = refl
+    of (no e) = refl
 
-  pub map-is-slow : (oid s : ℕ) → mapLookup r b m oid s .answer ≡ (walkLe r b (m .info) (targetFor m oid) (m .root) >>= mappingOf r b oid)
-  unfolding mapLookup lookIn counted
-  map-is-slow oid s =
-      said oid (look r b (m .info) (targetFor m oid) (m .root))
+-- the same of what an object map says of an object, and of the block that it leads to
+module _ (r : Reader) (b : List ℕ) (m : Map) (w : WellFormed r b (m .info) (m .root)) where
+  looked : (oid : ℕ) → lookIn r b m oid .answer ≡ mapSlow r b m oid
+  unfolding lookIn
+  looked oid =
+      said (mappingOf r b oid) (look r b (m .info) (targetFor m oid) (m .root))
       ∙ ap (λ (a : Answer (Option Hit)). a >>= mappingOf r b oid) (look-is-slow r b (m .info) (m .root) w (targetFor m oid))
+
+  pub map-is-slow : (oid s : ℕ) → mapLookup r b m oid s .answer ≡ mapSlow r b m oid
+  unfolding mapLookup counted
+  map-is-slow oid s = looked oid
+
+  pub block-is-slow : (oid s : ℕ) → resolveAt r b (Mapped m) oid s .answer ≡ (mapSlow r b m oid >>= blockFor)
+  unfolding resolveAt resolve blockIn counted
+  block-is-slow oid s = said blockFor (lookIn r b m oid) ∙ ap (λ (a : Answer (Option MapValue)). a >>= blockFor) (looked oid)

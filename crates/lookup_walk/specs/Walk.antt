@@ -14,7 +14,10 @@ use Rattle.node.specs.declared.layout.Node.{Node}
 use Rattle.node.specs.declared.layout.Info.{Info}
 use Rattle.lookup.specs.declared.descent.Target.{Target}
 use Rattle.lookup.specs.declared.descent.Hit.{Hit}
+use Rattle.lookup.specs.declared.map.Map.{Map}
+use Rattle.lookup.specs.declared.map.MapValue.{MapValue}
 use Rattle.lookup.specs.Read.{nodeAt}
+use Rattle.lookup.specs.Map.{targetFor, mappingOf}
 use Rattle.lookup.specs.Key.{keyIn, keyAt, targetKey, IsAbove, above?, isYes}
 
 -- an entry of a leaf: the two numbers that its key begins with, and where it lies
@@ -131,3 +134,7 @@ lastIn t kept (x ∷ xs) = lastIn t (pick (isYes (above? (x .key) (targetKey t))
 -- the slow lookup: over all entries of the tree
 unfoldable pub walkLe : Reader → List ℕ → Info → Target → Node → Answer (Option Hit)
 walkLe r b info t root = treeAt r b info root >>= λ tree. got (lastIn t none (items tree))
+
+-- what an object map says of an object by that walk
+abbrev pub mapSlow : Reader → List ℕ → Map → ℕ → Answer (Option MapValue)
+mapSlow r b m oid = walkLe r b (m .info) (targetFor m oid) (m .root) >>= mappingOf r b oid
