@@ -10,7 +10,7 @@ use compare::opening::run::{judge, Run};
 use compare::opening::{answer, Open};
 use compare::pairs::{self, by_oracle, Ports};
 use compare::volumes::Volumes;
-use compare::{bench, cases, checkpoints, list, parts, reach, record, recorded, sample};
+use compare::{bench, cases, checkpoints, list, maps, parts, reach, record, recorded, sample};
 
 use sticks::gpt::expected_part;
 
@@ -76,6 +76,14 @@ fn finish(name: &str, good: bool, words: &str) {
         exit(1);
     }
     println!("{name}: {words}");
+}
+
+/// Whether a run that is good so far saw every kind of case; says which it did not.
+fn saw_all(good: bool, missing: Vec<String>) -> bool {
+    if good && !missing.is_empty() {
+        println!("never seen: {}", missing.join(", "));
+    }
+    good && missing.is_empty()
 }
 
 pub fn compare_leaves(seed: u64) {
@@ -158,11 +166,7 @@ pub fn calls(seed: u64, count: u64) {
     println!("seed {seed}, {count} sticks, {} images, {} calls", run.images, run.tally.calls());
     print!("{}{}", run.tally, run.met);
     let missing = [run.tally.missing(), run.met.missing()].concat();
-    let mut good = !run.report_failure(calls_port(), Path::new("target"));
-    if good && !missing.is_empty() {
-        println!("never seen: {}", missing.join(", "));
-        good = false;
-    }
+    let mut good = saw_all(!run.report_failure(calls_port(), Path::new("target")), missing);
     good &= vast(calls_port().map(calls::vast::check));
     finish("calls", good, if calls_port().is_some() { "all agree" } else { "the oracle alone was asked" });
 }
@@ -174,12 +178,7 @@ pub fn list(seed: u64, count: u64) {
         run.edges(list_port());
     }
     print!("seed {seed}, {count} sticks, {} images, {}", run.images, run.tally);
-    let missing = run.tally.missing();
-    let mut good = !run.report_failure(list_port(), Path::new("target"));
-    if good && !missing.is_empty() {
-        println!("never seen: {}", missing.join(", "));
-        good = false;
-    }
+    let mut good = saw_all(!run.report_failure(list_port(), Path::new("target")), run.tally.missing());
     good &= vast(list_port().map(list::edges::vast));
     finish("list", good, if list_port().is_some() { "all agree" } else { "the oracle alone was asked" });
 }
@@ -189,12 +188,7 @@ pub fn pairs(seed: u64, count: u64) {
     let ports = Ports { list: list_port().unwrap_or(&by_oracle::list), call: calls_port().unwrap_or(&by_oracle::call) };
     let run = pairs::run::Run::over(seed, count, ports);
     print!("seed {seed}, {count} sticks\n{}", run.tally);
-    let missing = run.tally.missing();
-    let mut good = !run.report_failure(Path::new("target"));
-    if good && !missing.is_empty() {
-        println!("never seen: {}", missing.join(", "));
-        good = false;
-    }
+    let good = saw_all(!run.report_failure(Path::new("target")), run.tally.missing());
     finish("pairs", good, if calls_port().is_some() { "all as they must be" } else { "the oracle alone was asked" });
 }
 
@@ -202,12 +196,7 @@ pub fn parts(seed: u64, count: u64) {
     answer::silence_panics();
     let run = parts::run::Run::over(seed, count, parts_ports());
     print!("seed {seed}, {count} images with a table\n{}", run.tally);
-    let missing = run.tally.missing();
-    let mut good = !run.report_failure(Path::new("target"));
-    if good && !missing.is_empty() {
-        println!("never seen: {}", missing.join(", "));
-        good = false;
-    }
+    let mut good = saw_all(!run.report_failure(Path::new("target")), run.tally.missing());
     good &= vast(parts_ports().map(|p| parts::run::vast(p.part)));
     finish("parts", good, if parts_ports().is_some() { "all agree" } else { "the oracle alone was asked" });
 }
@@ -216,13 +205,16 @@ pub fn checkpoints(seed: u64, count: u64) {
     answer::silence_panics();
     let run = checkpoints::run::Run::over(seed, count, checkpoints_ports());
     print!("seed {seed}, {}", run.tally);
-    let missing = run.tally.missing();
-    let mut good = !run.report_failure(Path::new("target"));
-    if good && !missing.is_empty() {
-        println!("never seen: {}", missing.join(", "));
-        good = false;
-    }
+    let good = saw_all(!run.report_failure(Path::new("target")), run.tally.missing());
     finish("checkpoints", good, if checkpoints_ports().is_some() { "all agree" } else { "the oracle alone was asked" });
+}
+
+pub fn maps(seed: u64, count: u64) {
+    answer::silence_panics();
+    let run = maps::run::Run::over(seed, count, maps::USUAL);
+    print!("seed {seed}, {count} sticks, {} images\n{}", run.images, run.tally);
+    let good = saw_all(!run.report_failure(Path::new("target")), run.tally.missing());
+    finish("maps", good, "all agree");
 }
 
 pub fn reach(seed: u64, count: u64) {

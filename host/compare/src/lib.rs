@@ -2,7 +2,7 @@
 //! opening of containers ([`opening`]) and of volumes ([`volumes`]), the calls on volumes ([`calls`]) and their
 //! listings ([`list`]), all of these on images with a partition table ([`parts`]) and at earlier checkpoints
 //! ([`checkpoints`]), and of two sticks at a time ([`pairs`]). The Rust reads no table: it is given the part of an
-//! [`image`] that the table leads to.
+//! [`image`] that the table leads to. Its object maps are held against a walk over all their entries ([`maps`]).
 //!
 //! The comparison needs the oracle; without the published sources only [`port`], [`leaf`] and the
 //! file format of [`record`] are built.
@@ -23,6 +23,8 @@ pub mod image;
 pub mod leaf;
 #[cfg(oracle)]
 pub mod list;
+#[cfg(oracle)]
+pub mod maps;
 #[cfg(oracle)]
 pub mod opening;
 #[cfg(oracle)]

@@ -16,13 +16,15 @@
 //! cargo run --release -p compare -- parts           all of these on images with a partition table
 //! cargo run --release -p compare -- checkpoints     all of these at earlier checkpoints, and the list of those
 //! cargo run --release -p compare -- pairs           two sticks at a time: the same contents, and one thing changed
+//! cargo run --release -p compare -- maps            their object maps held against a walk over all entries
 //! cargo run --release -p compare -- reach           every call of the oracle on sticks, and what became of it
 //! cargo run --release -p compare -- open FILE..     open these images, and print each answer
 //! ```
 //!
 //! After `rt staticlib apfs`, with `--features apfs`, `sticks` and `open` hold the port's opening
 //! against the oracle's, and with `--features calls` `volumes`, `calls`, `list`, `parts`, `checkpoints` and `pairs` do
-//! the same of its calls and its listings; without these features they ask the oracle alone. Timings of both:
+//! the same of its calls and its listings; without these features they ask the oracle alone, as `maps` always does.
+//! Timings of both:
 //!
 //! ```text
 //! cargo run --profile speed --features calls -p compare -- bench
@@ -52,8 +54,10 @@ const DEFAULT_FOR_PARTS: u64 = 4000;
 const DEFAULT_FOR_CHECKPOINTS: u64 = 1000;
 /// Each stick has a second one beside it, and others with one thing changed.
 const DEFAULT_FOR_PAIRS: u64 = 300;
+/// Each stick is damaged six times, and each of its maps asked about some 200 targets.
+const DEFAULT_FOR_MAPS: u64 = 2000;
 const USAGE: &str =
-    "usage: compare [record FILE | record-calls FILE | replay FILE | sticks | volumes | calls | list | parts | checkpoints | pairs | reach | bench | open FILE..] \
+    "usage: compare [record FILE | record-calls FILE | replay FILE | sticks | volumes | calls | list | parts | checkpoints | pairs | maps | reach | bench | open FILE..] \
                      [--seed N] [--count K]";
 
 enum Command {
@@ -68,6 +72,7 @@ enum Command {
     Parts,
     Checkpoints,
     Pairs,
+    Maps,
     Reach,
     Bench,
     Open(Vec<String>),
@@ -106,6 +111,7 @@ fn arguments() -> Arguments {
         Command::Parts => DEFAULT_FOR_PARTS,
         Command::Checkpoints => DEFAULT_FOR_CHECKPOINTS,
         Command::Pairs => DEFAULT_FOR_PAIRS,
+        Command::Maps => DEFAULT_FOR_MAPS,
         _ => DEFAULT_STICKS,
     };
     Arguments { command, seed, count: count.unwrap_or(usual) }
@@ -124,6 +130,7 @@ fn command(words: &[String]) -> Command {
         ["parts"] => Command::Parts,
         ["checkpoints"] => Command::Checkpoints,
         ["pairs"] => Command::Pairs,
+        ["maps"] => Command::Maps,
         ["reach"] => Command::Reach,
         ["bench"] => Command::Bench,
         ["open", _, ..] => Command::Open(words[1..].to_vec()),
@@ -157,6 +164,7 @@ fn main() {
         Command::Parts => commands::parts(seed, count),
         Command::Checkpoints => commands::checkpoints(seed, count),
         Command::Pairs => commands::pairs(seed, count),
+        Command::Maps => commands::maps(seed, count),
         Command::Reach => commands::reach(seed, count),
         Command::Bench => commands::bench(),
         Command::Open(files) => commands::open(&files),

@@ -44,6 +44,10 @@ pub fn parts(_seed: u64, _count: u64) {
     none()
 }
 
+pub fn maps(_seed: u64, _count: u64) {
+    none()
+}
+
 pub fn reach(_seed: u64, _count: u64) {
     none()
 }

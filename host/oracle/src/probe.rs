@@ -6,7 +6,8 @@ use crate::btree::{self, Node};
 use crate::bytes;
 use crate::error::{Error, Result};
 use crate::fs::{Extent, Inode, Volume, OBJ_ID_MASK};
-use crate::nx::Container;
+use crate::nx::{ApfsSuperblock, Container};
+use crate::omap::{Omap, OmapVal};
 
 /// The number that document 01 gives an error's class. The other classes belong to writing.
 pub fn class(e: &Error) -> u64 {
@@ -72,4 +73,30 @@ pub fn tree_node(volume: &Volume, oid: u64) -> Result<Arc<Node>> {
 
 pub fn block_count(container: &Container) -> u64 {
     container.r.block_count
+}
+
+/// The block of a volume's object map, by the volume's object id.
+pub fn volume_map(container: &Container, oid: u64) -> Result<u64> {
+    let superblock = container.r.read_object(container.omap_lookup(oid)?)?;
+    ApfsSuperblock::parse(&superblock).map(|volume| volume.omap_oid)
+}
+
+/// The object map in a block.
+pub fn map(container: &Container, block: u64) -> Result<Omap> {
+    Omap::load(&container.r, &container.r.read_object(block)?)
+}
+
+/// The mapping of an object at a transaction.
+pub fn map_lookup(container: &Container, map: &Omap, (oid, xid): (u64, u64)) -> Result<Option<OmapVal>> {
+    map.lookup(&container.r, oid, xid)
+}
+
+/// A key, and the value if there is one.
+pub type Entry = (Vec<u8>, Option<Vec<u8>>);
+
+/// The entry that [`map_lookup`] goes by.
+pub fn lookup_le(container: &Container, map: &Omap, target: (u64, u64)) -> Result<Option<Entry>> {
+    let order = |key: &[u8]| Ok((bytes::u64_at(key, 0)?, bytes::u64_at(key, 8)?).cmp(&target));
+    let root = map.tree_root();
+    btree::lookup_le(&container.r, root, &root.info()?, &|block| Ok(block), &order)
 }

@@ -75,7 +75,7 @@ impl Tally {
     }
 }
 
-fn counts<K: fmt::Display>(map: &BTreeMap<K, u64>) -> String {
+pub(crate) fn counts<K: fmt::Display>(map: &BTreeMap<K, u64>) -> String {
     map.iter().map(|(k, n)| format!("{k} {n}")).collect::<Vec<_>>().join("; ")
 }
 

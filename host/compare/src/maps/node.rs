@@ -1,0 +1,121 @@
+//! Nodes of a map's tree by their bytes: Apple File System Reference, "B-Trees", and document 01, btree.rs.
+
+use std::ops::Range;
+
+use sticks::block::{is_sealed, BTREE, BTREE_NODE};
+
+const ROOT: u64 = 0x1;
+const LEAF: u64 = 0x2;
+const FIXED: u64 = 0x4;
+const HASHED: u64 = 0x8;
+
+/// Where the node's own bytes end and its table of contents may start.
+const HEAD: usize = 56;
+/// What a root ends in.
+const INFO: usize = 40;
+const HIGHEST: u64 = 32;
+const NO_VALUE: usize = 0xffff;
+
+const PHYSICAL_TREE: u64 = 0x10;
+/// Bytes of a map's keys and values, and of a child's address.
+pub const KEY: usize = 16;
+const VALUE: usize = 16;
+pub const CHILD: usize = 8;
+
+/// The number in the `n` bytes at a place, if they are there.
+pub fn number(b: &[u8], at: usize, n: usize) -> Option<u64> {
+    let bytes = b.get(at..at.checked_add(n)?)?;
+    Some(bytes.iter().rev().fold(0, |number, &byte| number << 8 | u64::from(byte)))
+}
+
+/// The blocks of an image, as block 0 counts them.
+#[derive(Clone, Copy)]
+pub struct Disk<'a> {
+    image: &'a [u8],
+    block_size: usize,
+    blocks: u64,
+}
+
+impl<'a> Disk<'a> {
+    pub fn of(image: &'a [u8]) -> Option<Disk<'a>> {
+        Some(Disk { image, block_size: number(image, 36, 4)? as usize, blocks: number(image, 40, 8)? })
+    }
+
+    /// The bytes of a block that may be addressed.
+    pub fn range(&self, block: u64) -> Option<Range<usize>> {
+        let counted = block != 0 && block < self.blocks;
+        let start = usize::try_from(block).ok().filter(|_| counted)?.checked_mul(self.block_size)?;
+        Some(start..start.checked_add(self.block_size)?)
+    }
+
+    pub fn object(&self, block: u64) -> Option<&'a [u8]> {
+        self.image.get(self.range(block)?).filter(|b| is_sealed(b))
+    }
+
+    pub fn node(&self, block: u64) -> Option<Node<'a>> {
+        Node::parse(self.object(block)?)
+    }
+}
+
+/// Where an entry's key and value stand in their block.
+pub struct Spans {
+    pub key: Range<usize>,
+    pub value: Option<Range<usize>>,
+}
+
+pub struct Node<'a> {
+    pub bytes: &'a [u8],
+    pub level: u64,
+    /// How many entries it has.
+    pub count: usize,
+    /// The table of contents. Keys are counted from its end on, values back from theirs.
+    pub table: Range<usize>,
+    values_end: usize,
+    flags: u64,
+}
+
+impl<'a> Node<'a> {
+    fn parse(bytes: &'a [u8]) -> Option<Node<'a>> {
+        let kind = number(bytes, 24, 2)? as u32;
+        let (flags, level) = (number(bytes, 32, 2)?, number(bytes, 34, 2)?);
+        let count = number(bytes, 36, 4)? as usize;
+        let start = HEAD + number(bytes, 40, 2)? as usize;
+        let table = start..start + number(bytes, 42, 2)? as usize;
+        let values_end = bytes.len() - if flags & ROOT != 0 { INFO } else { 0 };
+        let is_node = matches!(kind, BTREE | BTREE_NODE) && flags & HASHED == 0;
+        let fits = table.end <= values_end && level <= HIGHEST;
+        (is_node && fits).then_some(Node { bytes, level, count, table, values_end, flags })
+    }
+
+    /// At any level.
+    pub fn is_leaf(&self) -> bool {
+        self.flags & LEAF != 0
+    }
+
+    /// Whether it is the root of a map's tree, by what it says of the tree.
+    pub fn is_map_root(&self) -> bool {
+        let info = |at: usize| number(self.bytes, self.values_end + at, 4);
+        let sizes = (info(8), info(12)) == (Some(KEY as u64), Some(VALUE as u64));
+        self.flags & ROOT != 0 && sizes && info(0).is_some_and(|flags| flags & PHYSICAL_TREE != 0)
+    }
+
+    /// The `i`-th entry, where all of it stands in the block.
+    pub fn spans(&self, i: usize) -> Option<Spans> {
+        let word = |at: usize| number(self.bytes, self.table.start + at, 2).map(|n| n as usize);
+        let (key, key_length, value, value_length) = if self.flags & FIXED != 0 {
+            (word(4 * i)?, KEY, word(4 * i + 2)?, if self.is_leaf() { VALUE } else { CHILD })
+        } else {
+            (word(8 * i)?, word(8 * i + 2)?, word(8 * i + 4)?, word(8 * i + 6)?)
+        };
+        let inside = |start: usize, length: usize| {
+            let end = start + length;
+            (end <= self.bytes.len()).then_some(start..end)
+        };
+        let key = inside(self.table.end + key, key_length)?;
+        if value == NO_VALUE {
+            return Some(Spans { key, value: None });
+        }
+        let value = inside(self.values_end.checked_sub(value)?, value_length)?;
+        Some(Spans { key, value: Some(value) })
+    }
+}
