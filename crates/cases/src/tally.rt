@@ -64,7 +64,7 @@ pub fn print_tally(t: Tally) {
     io::write_all(1, b"\n");
 }
 
-fn print_export_at(op: usize) {
+fn print_export_at(op: usize) -> bool {
     match op {
         9 => io::write_all(1, b"apfs_checkpoints: "),
         10 => io::write_all(1, b"apfs_open_at: "),
@@ -72,7 +72,6 @@ fn print_export_at(op: usize) {
         12 => io::write_all(1, b"apfs_list_at: "),
         _ => io::write_all(1, b"apfs_read_at: "),
     }
-    ;
 }
 
 fn print_export(op: usize) {
