@@ -17,7 +17,55 @@ impl Which {
     }
 }
 
-// A slice passes as its pointer and its length.
+/// The exports of a call that takes numbers, at the latest checkpoint and at another, behind one safe function. A slice
+/// passes as its pointer and its length; each call lends live slices for its time, and the port writes to `out` alone.
+macro_rules! by_numbers {
+    ($($(#[$doc:meta])* $name:ident: $latest:ident, $at:ident($($n:ident),*);)*) => {
+        extern "C" {
+            $(
+                fn $latest(image: *const u8, image_len: usize, volume: u64, $($n: u64,)* out: *mut u8, out_len: usize)
+                    -> i64;
+                fn $at(
+                    image: *const u8, image_len: usize, xid: u64, volume: u64, $($n: u64,)* out: *mut u8, out_len: usize
+                ) -> i64;
+            )*
+        }
+        $(
+            $(#[$doc])*
+            pub fn $name(image: &[u8], which: Which, $($n: u64,)* out: &mut [u8]) -> i64 {
+                let (b, b_len, v, o, o_len) = (image.as_ptr(), image.len(), which.volume, out.as_mut_ptr(), out.len());
+                match which.checkpoint {
+                    None => unsafe { $latest(b, b_len, v, $($n,)* o, o_len) },
+                    Some(xid) => unsafe { $at(b, b_len, xid, v, $($n,)* o, o_len) },
+                }
+            }
+        )*
+    };
+}
+
+by_numbers! {
+    /// The file's bytes from `offset` on, as many as there are and `out` holds.
+    read: apfs_read, apfs_read_at(id, offset);
+    /// The line of the directory entry at `place`; nothing past the last.
+    entry: apfs_entry, apfs_entry_at(id, place);
+    /// The lines of the directory entries from `place` on, as many as fit; nothing past the last.
+    entries: apfs_entries, apfs_entries_at(id, place);
+    /// The line of the attribute at `place`, with its contents; nothing past the last.
+    xattr: apfs_xattr, apfs_xattr_at(id, place);
+    /// The bytes of the attribute at `place`; nothing past the last.
+    xattr_bytes: apfs_xattr_bytes, apfs_xattr_bytes_at(id, place);
+    /// A symbolic link's text.
+    link: apfs_link, apfs_link_at(id);
+    /// The line of the file's extent at `place`; nothing past the last.
+    extent: apfs_extent, apfs_extent_at(id, place);
+    /// The line `(replaced N)`: how many ill-formed parts of a name its lossy reading replaces; nothing where there is no
+    /// such name. Kinds: 0 the volume's label, 1 the inode's name, 2 the directory entry and 3 the attribute at `place`,
+    /// 4 a symbolic link's text.
+    replaced: apfs_replaced, apfs_replaced_at(kind, id, place);
+    /// The listing of the whole volume; where refused, `out` is left all zeros.
+    list: apfs_list, apfs_list_at();
+}
+
 extern "C" {
     fn apfs_lookup(
         image: *const u8,
@@ -38,245 +86,14 @@ extern "C" {
         out: *mut u8,
         out_len: usize,
     ) -> i64;
-    fn apfs_read(
-        image: *const u8,
-        image_len: usize,
-        volume: u64,
-        id: u64,
-        offset: u64,
-        out: *mut u8,
-        out_len: usize,
-    ) -> i64;
-    fn apfs_read_at(
-        image: *const u8,
-        image_len: usize,
-        xid: u64,
-        volume: u64,
-        id: u64,
-        offset: u64,
-        out: *mut u8,
-        out_len: usize,
-    ) -> i64;
-    fn apfs_entry(
-        image: *const u8,
-        image_len: usize,
-        volume: u64,
-        id: u64,
-        place: u64,
-        out: *mut u8,
-        out_len: usize,
-    ) -> i64;
-    fn apfs_entry_at(
-        image: *const u8,
-        image_len: usize,
-        xid: u64,
-        volume: u64,
-        id: u64,
-        place: u64,
-        out: *mut u8,
-        out_len: usize,
-    ) -> i64;
-    fn apfs_entries(
-        image: *const u8,
-        image_len: usize,
-        volume: u64,
-        id: u64,
-        place: u64,
-        out: *mut u8,
-        out_len: usize,
-    ) -> i64;
-    fn apfs_entries_at(
-        image: *const u8,
-        image_len: usize,
-        xid: u64,
-        volume: u64,
-        id: u64,
-        place: u64,
-        out: *mut u8,
-        out_len: usize,
-    ) -> i64;
-    fn apfs_xattr(
-        image: *const u8,
-        image_len: usize,
-        volume: u64,
-        id: u64,
-        place: u64,
-        out: *mut u8,
-        out_len: usize,
-    ) -> i64;
-    fn apfs_xattr_at(
-        image: *const u8,
-        image_len: usize,
-        xid: u64,
-        volume: u64,
-        id: u64,
-        place: u64,
-        out: *mut u8,
-        out_len: usize,
-    ) -> i64;
-    fn apfs_xattr_bytes(
-        image: *const u8,
-        image_len: usize,
-        volume: u64,
-        id: u64,
-        place: u64,
-        out: *mut u8,
-        out_len: usize,
-    ) -> i64;
-    fn apfs_xattr_bytes_at(
-        image: *const u8,
-        image_len: usize,
-        xid: u64,
-        volume: u64,
-        id: u64,
-        place: u64,
-        out: *mut u8,
-        out_len: usize,
-    ) -> i64;
-    fn apfs_link(image: *const u8, image_len: usize, volume: u64, id: u64, out: *mut u8, out_len: usize) -> i64;
-    fn apfs_link_at(
-        image: *const u8,
-        image_len: usize,
-        xid: u64,
-        volume: u64,
-        id: u64,
-        out: *mut u8,
-        out_len: usize,
-    ) -> i64;
-    fn apfs_extent(
-        image: *const u8,
-        image_len: usize,
-        volume: u64,
-        id: u64,
-        place: u64,
-        out: *mut u8,
-        out_len: usize,
-    ) -> i64;
-    fn apfs_extent_at(
-        image: *const u8,
-        image_len: usize,
-        xid: u64,
-        volume: u64,
-        id: u64,
-        place: u64,
-        out: *mut u8,
-        out_len: usize,
-    ) -> i64;
-    fn apfs_replaced(
-        image: *const u8,
-        image_len: usize,
-        volume: u64,
-        kind: u64,
-        id: u64,
-        place: u64,
-        out: *mut u8,
-        out_len: usize,
-    ) -> i64;
-    fn apfs_replaced_at(
-        image: *const u8,
-        image_len: usize,
-        xid: u64,
-        volume: u64,
-        kind: u64,
-        id: u64,
-        place: u64,
-        out: *mut u8,
-        out_len: usize,
-    ) -> i64;
-    fn apfs_list(image: *const u8, image_len: usize, volume: u64, out: *mut u8, out_len: usize) -> i64;
-    fn apfs_list_at(image: *const u8, image_len: usize, xid: u64, volume: u64, out: *mut u8, out_len: usize) -> i64;
 }
-
-// Each call below lends live slices for the call's time; the port writes to `out` alone.
 
 /// The node's line of the inode at `path`.
 pub fn lookup(image: &[u8], which: Which, path: &[u8], out: &mut [u8]) -> i64 {
     let (b, b_len, v, o, o_len) = (image.as_ptr(), image.len(), which.volume, out.as_mut_ptr(), out.len());
+    let (p, p_len) = (path.as_ptr(), path.len());
     match which.checkpoint {
-        None => unsafe { apfs_lookup(b, b_len, v, path.as_ptr(), path.len(), o, o_len) },
-        Some(xid) => unsafe { apfs_lookup_at(b, b_len, xid, v, path.as_ptr(), path.len(), o, o_len) },
-    }
-}
-
-/// The file's bytes from `offset` on, as many as there are and `out` holds.
-pub fn read(image: &[u8], which: Which, id: u64, offset: u64, out: &mut [u8]) -> i64 {
-    let (b, b_len, v, o, o_len) = (image.as_ptr(), image.len(), which.volume, out.as_mut_ptr(), out.len());
-    match which.checkpoint {
-        None => unsafe { apfs_read(b, b_len, v, id, offset, o, o_len) },
-        Some(xid) => unsafe { apfs_read_at(b, b_len, xid, v, id, offset, o, o_len) },
-    }
-}
-
-/// The line of the directory entry at `place`; nothing past the last.
-pub fn entry(image: &[u8], which: Which, id: u64, place: u64, out: &mut [u8]) -> i64 {
-    let (b, b_len, v, o, o_len) = (image.as_ptr(), image.len(), which.volume, out.as_mut_ptr(), out.len());
-    match which.checkpoint {
-        None => unsafe { apfs_entry(b, b_len, v, id, place, o, o_len) },
-        Some(xid) => unsafe { apfs_entry_at(b, b_len, xid, v, id, place, o, o_len) },
-    }
-}
-
-/// The lines of the directory entries from `place` on, as many as fit; nothing past the last.
-pub fn entries(image: &[u8], which: Which, id: u64, place: u64, out: &mut [u8]) -> i64 {
-    let (b, b_len, v, o, o_len) = (image.as_ptr(), image.len(), which.volume, out.as_mut_ptr(), out.len());
-    match which.checkpoint {
-        None => unsafe { apfs_entries(b, b_len, v, id, place, o, o_len) },
-        Some(xid) => unsafe { apfs_entries_at(b, b_len, xid, v, id, place, o, o_len) },
-    }
-}
-
-/// The line of the attribute at `place`, with its contents; nothing past the last.
-pub fn xattr(image: &[u8], which: Which, id: u64, place: u64, out: &mut [u8]) -> i64 {
-    let (b, b_len, v, o, o_len) = (image.as_ptr(), image.len(), which.volume, out.as_mut_ptr(), out.len());
-    match which.checkpoint {
-        None => unsafe { apfs_xattr(b, b_len, v, id, place, o, o_len) },
-        Some(xid) => unsafe { apfs_xattr_at(b, b_len, xid, v, id, place, o, o_len) },
-    }
-}
-
-/// The bytes of the attribute at `place`; nothing past the last.
-pub fn xattr_bytes(image: &[u8], which: Which, id: u64, place: u64, out: &mut [u8]) -> i64 {
-    let (b, b_len, v, o, o_len) = (image.as_ptr(), image.len(), which.volume, out.as_mut_ptr(), out.len());
-    match which.checkpoint {
-        None => unsafe { apfs_xattr_bytes(b, b_len, v, id, place, o, o_len) },
-        Some(xid) => unsafe { apfs_xattr_bytes_at(b, b_len, xid, v, id, place, o, o_len) },
-    }
-}
-
-/// A symbolic link's text.
-pub fn link(image: &[u8], which: Which, id: u64, out: &mut [u8]) -> i64 {
-    let (b, b_len, v, o, o_len) = (image.as_ptr(), image.len(), which.volume, out.as_mut_ptr(), out.len());
-    match which.checkpoint {
-        None => unsafe { apfs_link(b, b_len, v, id, o, o_len) },
-        Some(xid) => unsafe { apfs_link_at(b, b_len, xid, v, id, o, o_len) },
-    }
-}
-
-/// The line of the file's extent at `place`; nothing past the last.
-pub fn extent(image: &[u8], which: Which, id: u64, place: u64, out: &mut [u8]) -> i64 {
-    let (b, b_len, v, o, o_len) = (image.as_ptr(), image.len(), which.volume, out.as_mut_ptr(), out.len());
-    match which.checkpoint {
-        None => unsafe { apfs_extent(b, b_len, v, id, place, o, o_len) },
-        Some(xid) => unsafe { apfs_extent_at(b, b_len, xid, v, id, place, o, o_len) },
-    }
-}
-
-/// The line `(replaced N)`: how many ill-formed parts of a name its lossy reading replaces; nothing where there is no
-/// such name. Kinds: 0 the volume's label, 1 the inode's name, 2 the directory entry and 3 the attribute at `place`, 4 a
-/// symbolic link's text.
-pub fn replaced(image: &[u8], which: Which, kind: u64, id: u64, place: u64, out: &mut [u8]) -> i64 {
-    let (b, b_len, v, o, o_len) = (image.as_ptr(), image.len(), which.volume, out.as_mut_ptr(), out.len());
-    match which.checkpoint {
-        None => unsafe { apfs_replaced(b, b_len, v, kind, id, place, o, o_len) },
-        Some(xid) => unsafe { apfs_replaced_at(b, b_len, xid, v, kind, id, place, o, o_len) },
-    }
-}
-
-/// The listing of the whole volume; where refused, `out` is left all zeros.
-pub fn list(image: &[u8], which: Which, out: &mut [u8]) -> i64 {
-    let (b, b_len, v, o, o_len) = (image.as_ptr(), image.len(), which.volume, out.as_mut_ptr(), out.len());
-    match which.checkpoint {
-        None => unsafe { apfs_list(b, b_len, v, o, o_len) },
-        Some(xid) => unsafe { apfs_list_at(b, b_len, xid, v, o, o_len) },
+        None => unsafe { apfs_lookup(b, b_len, v, p, p_len, o, o_len) },
+        Some(xid) => unsafe { apfs_lookup_at(b, b_len, xid, v, p, p_len, o, o_len) },
     }
 }
