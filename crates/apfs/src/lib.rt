@@ -2,6 +2,7 @@
 // container is in, and reads that as its whole image: document 02, request 01.
 mod answer;
 mod earlier;
+mod object;
 mod on_part;
 
 use crate::answer::result;
@@ -29,6 +30,7 @@ pub use earlier::apfs_read_at;
 pub use earlier::apfs_replaced_at;
 pub use earlier::apfs_xattr_at;
 pub use earlier::apfs_xattr_bytes_at;
+pub use object::apfs_wrong_words;
 use part_line::part_text;
 use volume::Which;
 ghost use mathlib.Core.Path.{_≡_};

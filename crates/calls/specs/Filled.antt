@@ -1,6 +1,6 @@
 -- What a call leaves that answers into a buffer which the caller lends. Document 01, "Answers other than success": "any other refusal leaves
 -- buffers unchanged. Success writes nothing past its answer"; "6 (added) buffer shorter than the answer".
-use Prim.Native.Nat.{ℕ}
+use Prim.Native.Nat.{ℕ, _*_}
 use mathlib.Core.List.{List, _++_}
 use lib.ListN.{length, drop}
 use Rattle.error.specs.Answer.{Answer, got, no, ifLe}
@@ -21,6 +21,13 @@ unfoldable pub filled : List ℕ → List ℕ → Filled
 filled t b =
     ifLe (length t) (length b)
     (record { answer = got (length t); buffer = t ++ drop (length t) b })
+    (record { answer = no BufferTooShort; buffer = b })
+
+-- n entries of k bytes each, together t: how many they are is answered
+abbrev pub entriesIn : ℕ → ℕ → List ℕ → List ℕ → Filled
+entriesIn k n t b =
+    ifLe (k * n) (length b)
+    (record { answer = got n; buffer = t ++ drop (k * n) b })
     (record { answer = no BufferTooShort; buffer = b })
 
 -- a text or a refusal

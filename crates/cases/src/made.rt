@@ -14,6 +14,7 @@ use apfs::apfs_open_at;
 use apfs::apfs_read;
 use apfs::apfs_read_at;
 use apfs::apfs_replaced;
+use apfs::apfs_wrong_words;
 use apfs::apfs_xattr;
 
 // No two bytes in a row are equal, so that one that is written where none may be shows.
@@ -27,7 +28,8 @@ fn written_on(out: &mut [u8]) {
     }
 }
 
-// At an earlier checkpoint, or the list of them: the input is a path or a transaction number.
+// At an earlier checkpoint, the list of them, or an object's wrong words: the input is a path, a transaction number or the
+// object.
 fn made_at(r: Record, image: &[u8], input: &[u8], out: &mut [u8]) -> i64 {
     let op = r.op;
     match op {
@@ -35,6 +37,7 @@ fn made_at(r: Record, image: &[u8], input: &[u8], out: &mut [u8]) -> i64 {
         13 => apfs_open_at(image, r.a, out),
         14 => apfs_lookup_at(image, r.a, r.volume, input, out),
         15 => apfs_list_at(image, r.a, r.volume, out),
+        17 => apfs_wrong_words(input, out),
         _ => apfs_read_at(
             image,
             value(bytes::u64_at(input, 0)),
@@ -102,7 +105,7 @@ pub fn agrees(r: Record, image: &[u8], input: &[u8], out: &mut [u8]) -> bool {
     if r.op < 3 {
         return false;
     }
-    if 16 < r.op {
+    if 17 < r.op {
         return false;
     }
     if out.len() < room {

@@ -19,7 +19,7 @@ fn kind_of(op: u8, refusal: u8) -> usize {
     if op < 3 {
         return 0;
     }
-    if 16 < op {
+    if 17 < op {
         return 0;
     }
     if 18 < refusal {
@@ -28,7 +28,7 @@ fn kind_of(op: u8, refusal: u8) -> usize {
     (op - 3) as usize * 19 + refusal as usize
 }
 
-pub fn counted(t: Tally, r: Record, same: bool, kinds: &mut [u64; 266]) -> Tally {
+pub fn counted(t: Tally, r: Record, same: bool, kinds: &mut [u64; 285]) -> Tally {
     if !same {
         return Tally {
             titled: t.titled,
@@ -38,7 +38,7 @@ pub fn counted(t: Tally, r: Record, same: bool, kinds: &mut [u64; 266]) -> Tally
         };
     }
     let k = kind_of(r.op, r.refusal);
-    if k < 266 {
+    if k < 285 {
         kinds[k] = one_more(kinds[k]);
     }
     Tally {
@@ -70,7 +70,8 @@ fn print_export_at(op: usize) -> bool {
         10 => io::write_all(1, b"apfs_open_at: "),
         11 => io::write_all(1, b"apfs_lookup_at: "),
         12 => io::write_all(1, b"apfs_list_at: "),
-        _ => io::write_all(1, b"apfs_read_at: "),
+        13 => io::write_all(1, b"apfs_read_at: "),
+        _ => io::write_all(1, b"apfs_wrong_words: "),
     }
 }
 
@@ -106,9 +107,9 @@ fn print_kind(op: usize, refusal: usize, n: u64) {
     io::print_decimal(1, refusal as u64);
 }
 
-pub fn print_kinds(kinds: &[u64; 266]) {
+pub fn print_kinds(kinds: &[u64; 285]) {
     let mut k = 0;
-    while k < 266 {
+    while k < 285 {
         print_kind(k / 19, k % 19, kinds[k]);
         k += 1;
         if k % 19 == 0 {

@@ -5,10 +5,10 @@ use Rattle.cases.proofs.tally.print_kinds.Statement.{statement}
 use Rattle.cases.proofs.tally.print_kinds.Tie as tie
 
 abbrev Inv-loop : tie.InvT-loop
-Inv-loop kinds k₀ t3 k = k ≤ 266
+Inv-loop kinds k₀ t3 k = k ≤ 285
 
 abbrev μ-loop : tie.MeasureT-loop
-μ-loop kinds k₀ t3 k = 266 - k
+μ-loop kinds k₀ t3 k = 285 - k
 
 pub print-kinds-spec : {M : Type 1} → statement M
 print-kinds-spec =

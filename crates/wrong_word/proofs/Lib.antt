@@ -1,0 +1,9 @@
+pub mod Modulus
+pub mod Words
+pub mod Swap
+pub mod Sound
+pub mod Places
+pub mod Complete
+pub mod Solved
+pub mod Laws
+pub mod Counting
