@@ -1,14 +1,18 @@
 //! The calls that the port exports, made safe. Each answers how many bytes it wrote to `out`, or
-//! minus the refusal's number; `checkpoints` answers how many numbers.
+//! minus the refusal's number; `checkpoints` and `wrong_words` answer how many entries.
 //!
-//! Without a feature the crate is empty: `open` has opening, its checkpoints and the part that is opened, `calls` also
+//! Without a feature the crate is empty: `open` has opening, its checkpoints, the part that is opened and what is said of an object, `calls` also
 //! the calls on a volume.
 
 #[cfg(feature = "calls")]
 pub mod calls;
 #[cfg(feature = "open")]
+mod object;
+#[cfg(feature = "open")]
 mod opening;
 pub mod refusal;
 
+#[cfg(feature = "open")]
+pub use object::wrong_words;
 #[cfg(feature = "open")]
 pub use opening::{checkpoints, open, open_at, part};

@@ -7,12 +7,13 @@
 //! apfs cat IMAGE PATH             a file's bytes
 //! apfs xattr IMAGE PATH [NAME]    the attributes; with a name, its bytes
 //! apfs list IMAGE                 the listing of a whole volume
+//! apfs words IMAGE BLOCK          of a block that fails its checksum, each place where one other word would mend it
 //! apfs checkpoints IMAGE          the transaction numbers of the checkpoints, one a line, the latest first
 //! ```
 //!
 //! An image is of a stick with a GUID partition table, or of an APFS partition alone. `--volume N` names another volume
 //! than the first, which is 0, and `--checkpoint N` another checkpoint than the latest, so that the stick is read as it
-//! was then. Refusals go to standard error, and the exit status is then 1; it is 2 where the arguments are wrong. A
+//! was then; `--block-size N` says how long the block of `words` is, which is else 4,096. Refusals go to standard error, and the exit status is then 1; it is 2 where the arguments are wrong. A
 //! listing has as much room as it needs, up to 1 GiB or eight times the partition; sparse files may ask for more, which
 //! is refusal 6.
 //!
@@ -28,12 +29,16 @@ use std::process::exit;
 use apfs::calls::Which;
 use tool::ask::Asked;
 use tool::failure::Failure;
-use tool::{cat, checkpoints, list, ls, sample, stat, usage, xattr};
+use tool::{cat, checkpoints, list, ls, sample, stat, usage, words, xattr};
+
+/// Of a block, where it is not said.
+const BLOCK: u64 = 4096;
 
 #[derive(Default)]
 struct Arguments {
     checkpoint: Option<u64>,
     volume: Option<u64>,
+    block_size: Option<u64>,
     words: Vec<OsString>,
 }
 
@@ -43,6 +48,7 @@ fn arguments() -> Option<Arguments> {
     while let Some(word) = args.next() {
         match word.to_str() {
             Some("--checkpoint") => out.checkpoint = Some(number(args.next())?),
+            Some("--block-size") => out.block_size = Some(number(args.next())?),
             Some("--volume") => out.volume = Some(number(args.next())?),
             Some(option) if option.starts_with("--") && option != "--help" => return None,
             _ => out.words.push(word),
@@ -53,12 +59,19 @@ fn arguments() -> Option<Arguments> {
 
 fn run(a: &Arguments, out: &mut dyn Write) -> Result<(), Failure> {
     let asked = |image: &OsString| Asked::of(image, Which { checkpoint: a.checkpoint, volume: a.volume.unwrap_or(0) });
-    let plain = a.checkpoint.is_none() && a.volume.is_none();
+    let at_latest = a.checkpoint.is_none() && a.volume.is_none();
+    let plain = at_latest && a.block_size.is_none();
+    let number = |word: &OsString| {
+        let read = word.to_str().and_then(|w| w.parse().ok());
+        read.ok_or_else(|| Failure::Usage(usage::of("words")))
+    };
     let (name, words) = a.words.split_first().ok_or_else(|| Failure::Usage(usage::all()))?;
     match (name.to_str().unwrap_or_default(), words) {
         ("help" | "--help", []) => Ok(writeln!(out, "{}", usage::all())?),
         ("sample", [file]) if plain => sample::run(file, out),
         ("checkpoints", [image]) if plain => checkpoints::run(image, out),
+        ("words", [image, block]) if at_latest => words::run(image, number(block)?, a.block_size.unwrap_or(BLOCK), out),
+        (name, _) if a.block_size.is_some() => Err(Failure::Usage(usage::of(name))),
         ("ls", [image]) => ls::run(&asked(image)?, b"", out),
         ("ls", [image, path]) => ls::run(&asked(image)?, path.as_encoded_bytes(), out),
         ("stat", [image]) => stat::container(&asked(image)?, a.volume.is_some(), out),

@@ -10,6 +10,7 @@ use compare::opening::run::{judge, Run};
 use compare::opening::{answer, Open};
 use compare::pairs::{self, by_oracle, Ports};
 use compare::volumes::Volumes;
+use compare::words;
 use compare::{bench, cases, checkpoints, list, maps, parts, reach, record, recorded, sample};
 
 use sticks::gpt::expected_part;
@@ -19,6 +20,13 @@ use crate::stop;
 fn port() -> Option<Open<'static>> {
     #[cfg(feature = "apfs")]
     return Some(&compare::port::open);
+    #[cfg(not(feature = "apfs"))]
+    None
+}
+
+fn words_port() -> Option<Open<'static>> {
+    #[cfg(feature = "apfs")]
+    return Some(&compare::port::wrong_words);
     #[cfg(not(feature = "apfs"))]
     None
 }
@@ -217,6 +225,13 @@ pub fn maps(seed: u64, count: u64) {
     finish("maps", good, "all agree");
 }
 
+pub fn words(seed: u64, count: u64) {
+    let run = words::run::Run::over(seed, count, words_port());
+    print!("seed {seed}, {count} objects\n{}", run.tally);
+    let good = saw_all(!run.report_failure(Path::new("target")), run.tally.missing());
+    finish("words", good, if words_port().is_some() { "all agree" } else { "the account alone was tried" });
+}
+
 pub fn reach(seed: u64, count: u64) {
     answer::silence_panics();
     print!("{}", reach::Reach::over(seed, count).report());
@@ -229,6 +244,7 @@ pub fn bench() {
     print!("{}", bench::listing::run(list_port()));
     print!("{}", bench::parts::run(parts_ports()));
     print!("{}", bench::checkpoints::run(checkpoints_ports()));
+    print!("{}", bench::words::run(words_port()));
 }
 
 pub fn open(files: &[String]) {

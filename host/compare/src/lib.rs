@@ -2,7 +2,8 @@
 //! opening of containers ([`opening`]) and of volumes ([`volumes`]), the calls on volumes ([`calls`]) and their
 //! listings ([`list`]), all of these on images with a partition table ([`parts`]) and at earlier checkpoints
 //! ([`checkpoints`]), and of two sticks at a time ([`pairs`]). The Rust reads no table: it is given the part of an
-//! [`image`] that the table leads to. Its object maps are held against a walk over all their entries ([`maps`]).
+//! [`image`] that the table leads to. Its object maps are held against a walk over all their entries ([`maps`]),
+//! and the port's list of wrong words against its test of checksums ([`words`]).
 //!
 //! The comparison needs the oracle; without the published sources only [`port`], [`leaf`] and the
 //! file format of [`record`] are built.
@@ -44,3 +45,5 @@ pub mod sample;
 pub mod volumes;
 #[cfg(oracle)]
 pub mod walk;
+#[cfg(oracle)]
+pub mod words;

@@ -17,11 +17,12 @@
 //! cargo run --release -p compare -- checkpoints     all of these at earlier checkpoints, and the list of those
 //! cargo run --release -p compare -- pairs           two sticks at a time: the same contents, and one thing changed
 //! cargo run --release -p compare -- maps            their object maps held against a walk over all entries
+//! cargo run --release -p compare -- words           the lists of wrong words of failing objects
 //! cargo run --release -p compare -- reach           every call of the oracle on sticks, and what became of it
 //! cargo run --release -p compare -- open FILE..     open these images, and print each answer
 //! ```
 //!
-//! After `rt staticlib apfs`, with `--features apfs`, `sticks` and `open` hold the port's opening
+//! After `rt staticlib apfs`, with `--features apfs`, `sticks`, `words` and `open` hold the port's opening and its lists of wrong words
 //! against the oracle's, and with `--features calls` `volumes`, `calls`, `list`, `parts`, `checkpoints` and `pairs` do
 //! the same of its calls and its listings; without these features they ask the oracle alone, as `maps` always does.
 //! Timings of both:
@@ -56,8 +57,10 @@ const DEFAULT_FOR_CHECKPOINTS: u64 = 1000;
 const DEFAULT_FOR_PAIRS: u64 = 300;
 /// Each stick is damaged six times, and each of its maps asked about some 200 targets.
 const DEFAULT_FOR_MAPS: u64 = 2000;
+/// Objects of up to 16,384 bytes, of which the oracle sums all for each word.
+const DEFAULT_FOR_WORDS: u64 = 20_000;
 const USAGE: &str =
-    "usage: compare [record FILE | record-calls FILE | replay FILE | sticks | volumes | calls | list | parts | checkpoints | pairs | maps | reach | bench | open FILE..] \
+    "usage: compare [record FILE | record-calls FILE | replay FILE | sticks | volumes | calls | list | parts | checkpoints | pairs | maps | words | reach | bench | open FILE..] \
                      [--seed N] [--count K]";
 
 enum Command {
@@ -73,6 +76,7 @@ enum Command {
     Checkpoints,
     Pairs,
     Maps,
+    Words,
     Reach,
     Bench,
     Open(Vec<String>),
@@ -112,6 +116,7 @@ fn arguments() -> Arguments {
         Command::Checkpoints => DEFAULT_FOR_CHECKPOINTS,
         Command::Pairs => DEFAULT_FOR_PAIRS,
         Command::Maps => DEFAULT_FOR_MAPS,
+        Command::Words => DEFAULT_FOR_WORDS,
         _ => DEFAULT_STICKS,
     };
     Arguments { command, seed, count: count.unwrap_or(usual) }
@@ -131,6 +136,7 @@ fn command(words: &[String]) -> Command {
         ["checkpoints"] => Command::Checkpoints,
         ["pairs"] => Command::Pairs,
         ["maps"] => Command::Maps,
+        ["words"] => Command::Words,
         ["reach"] => Command::Reach,
         ["bench"] => Command::Bench,
         ["open", _, ..] => Command::Open(words[1..].to_vec()),
@@ -165,6 +171,7 @@ fn main() {
         Command::Checkpoints => commands::checkpoints(seed, count),
         Command::Pairs => commands::pairs(seed, count),
         Command::Maps => commands::maps(seed, count),
+        Command::Words => commands::words(seed, count),
         Command::Reach => commands::reach(seed, count),
         Command::Bench => commands::bench(),
         Command::Open(files) => commands::open(&files),

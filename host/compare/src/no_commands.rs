@@ -48,6 +48,10 @@ pub fn maps(_seed: u64, _count: u64) {
     none()
 }
 
+pub fn words(_seed: u64, _count: u64) {
+    none()
+}
+
 pub fn reach(_seed: u64, _count: u64) {
     none()
 }

@@ -3,7 +3,7 @@
 #[cfg(feature = "calls")]
 pub use exports::calls;
 #[cfg(feature = "apfs")]
-pub use exports::{checkpoints, open, open_at, part};
+pub use exports::{checkpoints, open, open_at, part, wrong_words};
 
 // A slice passes as its pointer and its length.
 extern "C" {

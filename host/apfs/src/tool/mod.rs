@@ -20,4 +20,5 @@ mod size;
 pub mod stat;
 mod stick;
 pub mod usage;
+pub mod words;
 pub mod xattr;

@@ -87,6 +87,13 @@ impl Stick {
     }
 }
 
+/// The part of an image that a container is in; all of it where no part is told, as of a stick whose first block is lost.
+pub fn container(image: &[u8]) -> &[u8] {
+    let line = bytes(LONGEST, &|out| apfs::part(image, out));
+    let part = line.ok().and_then(|line| parsed("part", &line, Part::parse).ok());
+    part.and_then(|part| image.get(part.range())).unwrap_or(image)
+}
+
 /// A place for messages, with the checkpoint if one was asked for.
 pub fn at(place: &str, checkpoint: Option<u64>) -> String {
     match checkpoint {

@@ -8,6 +8,7 @@ mod errors;
 mod image;
 mod partitioned;
 mod sample;
+mod words;
 
 use std::io::Read;
 use std::path::Path;

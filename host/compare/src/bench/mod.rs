@@ -6,6 +6,7 @@ mod clock;
 pub mod listing;
 pub mod opening;
 pub mod parts;
+pub mod words;
 
 use std::fmt::Write as _;
 use std::time::Duration;

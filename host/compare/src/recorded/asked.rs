@@ -11,10 +11,13 @@ use crate::list::trace::End;
 use crate::list::walk;
 use crate::opening::answer;
 use crate::opening::outside::outside;
+use crate::words;
 
 const TOO_SHORT: u64 = 6;
 /// A transaction number has so many bytes.
 const NUMBER: usize = 8;
+/// So many a place and its word.
+const MEND: usize = 12;
 
 #[derive(Clone, Debug, PartialEq, Eq)]
 pub enum Asked {
@@ -25,6 +28,8 @@ pub enum Asked {
     Checkpoints,
     /// The same at the checkpoint of a number.
     At(u64, Box<Asked>),
+    /// The wrong words of an object, whatever the image.
+    WrongWords(Vec<u8>),
 }
 
 #[derive(Clone, Debug, PartialEq, Eq)]
@@ -48,6 +53,7 @@ impl Asked {
             Asked::Call(call) => call.name(),
             Asked::List => "list",
             Asked::Checkpoints => "checkpoints",
+            Asked::WrongWords(_) => "wrong_words",
             Asked::At(_, asked) => match asked.name() {
                 "open" => "open_at",
                 "lookup" => "lookup_at",
@@ -62,6 +68,7 @@ impl Asked {
     pub fn count(&self, bytes: usize) -> usize {
         match self {
             Asked::Checkpoints => bytes / NUMBER,
+            Asked::WrongWords(_) => bytes / MEND,
             _ => bytes,
         }
     }
@@ -115,6 +122,7 @@ pub fn told_by(rule: Rule, image: &Image, q: &Question) -> Option<Told> {
         },
         Asked::List => list(rule, image, q.volume, q.room),
         Asked::Checkpoints => numbers(image, q.room),
+        Asked::WrongWords(object) => Some(within(words::bytes(&words::account::mends(object)), q.room)),
         Asked::At(xid, asked) => told_by(rule, &image_at(image, *xid, 1), &Question { asked: (**asked).clone(), ..*q }),
     }
 }
@@ -122,7 +130,7 @@ pub fn told_by(rule: Rule, image: &Image, q: &Question) -> Option<Told> {
 /// Of the directories that the call reads.
 pub fn account(rule: Rule, image: &Image, q: &Question) -> Account {
     match &q.asked {
-        Asked::Open | Asked::Checkpoints => Account::None,
+        Asked::Open | Asked::Checkpoints | Asked::WrongWords(_) => Account::None,
         Asked::Call(call) => expected::told_by(rule, image, q.volume, call).account,
         Asked::List => walk::told_by(rule, image, q.volume).account,
         Asked::At(xid, asked) => account(rule, &image_at(image, *xid, 1), &Question { asked: (**asked).clone(), ..*q }),

@@ -1,8 +1,8 @@
 //! The form of the file.
 //!
 //! A record is: op and refusal (1 byte each), volume, a, b (8 each), the buffer's length, the count that is answered, the
-//! CRC-32C register of all the buffer after the call, the input's length (4 each), the input: a path, or a name's kind or
-//! a transaction number (8); a transaction number is a where a says nothing else. Numbers are little-endian. An op of 0 ends the file.
+//! CRC-32C register of all the buffer after the call, the input's length (4 each), the input: a path, an object, or a name's kind
+//! or a transaction number (8); a transaction number is a where a says nothing else. Numbers are little-endian. An op of 0 ends the file.
 
 use sticks::sums::crc32c;
 
@@ -100,6 +100,7 @@ fn coded(asked: &Asked) -> Option<(u8, u64, u64, Vec<u8>)> {
         Asked::Call(Call::Replaced { kind, id, place }) => (11, *id, *place, kind.to_le_bytes().to_vec()),
         Asked::Checkpoints => (12, 0, 0, none),
         Asked::At(xid, asked) => return coded_at(*xid, asked),
+        Asked::WrongWords(object) => (17, 0, 0, object.clone()),
         Asked::Call(Call::Entries { .. } | Call::XattrBytes { .. }) => return None,
     })
 }

@@ -1,5 +1,5 @@
 //! A file of calls on sticks with their answers, for replay without any Rust (`crates/cases`): document 01's cases, a
-//! sample of calls on drawn sticks, and the cases of requests 02, 03 and 04. An answer is the oracle's, or the papers' where
+//! sample of calls on drawn sticks, and the cases of requests 02, 03, 04 and 13. An answer is the oracle's, or the papers' where
 //! the oracle can't tell; never the port's.
 
 pub mod asked;
@@ -18,5 +18,6 @@ pub fn recorded(seed: u64) -> Result<Vec<u8>, String> {
     stated::write(stated::of_keys(), &mut file)?;
     drawn::write(seed, &drawn::AT_EDGES, &mut file);
     stated::write(stated::of_checkpoints(), &mut file)?;
+    stated::write(stated::of_words(), &mut file)?;
     Ok(file.finish())
 }

@@ -71,6 +71,7 @@ fn asked(op: u8, a: u64, b: u64, room: usize, input: &[u8]) -> Result<Asked, Str
         14 => Asked::At(a, Box::new(Asked::Call(Call::Lookup { path: input.to_vec() }))),
         15 => Asked::At(a, Box::new(Asked::List)),
         16 => Asked::At(eight(input)?, Box::new(Asked::Call(Call::Read { id: a, offset: b, length: room }))),
+        17 => Asked::WrongWords(input.to_vec()),
         _ => return Err(format!("no op {op}")),
     })
 }

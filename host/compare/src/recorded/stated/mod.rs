@@ -1,4 +1,4 @@
-//! Document 01's cases and those of partition tables, patched names, directory keys and checkpoints, each with what the
+//! Document 01's cases and those of partition tables, patched names, directory keys, checkpoints and wrong words, each with what the
 //! papers say of it, and small sticks that show them.
 
 mod checkpoints;
@@ -13,6 +13,7 @@ mod stick;
 mod tables;
 mod trees;
 mod volumes;
+mod words;
 
 use crate::calls::call::Call;
 use crate::image::Image;
@@ -68,6 +69,10 @@ impl Stated {
 
     pub fn checkpoints(said: Said) -> Stated {
         Stated::new(Asked::Checkpoints, ROOM, said)
+    }
+
+    pub fn wrong_words(object: Vec<u8>, said: Said) -> Stated {
+        Stated::new(Asked::WrongWords(object), ROOM, said)
     }
 
     /// The same at the checkpoint of a number.
@@ -132,6 +137,11 @@ pub fn of_keys() -> Vec<Group> {
 /// Those of request 04.
 pub fn of_checkpoints() -> Vec<Group> {
     checkpoints::groups()
+}
+
+/// Those of request 13.
+pub fn of_words() -> Vec<Group> {
+    words::groups()
 }
 
 /// An error tells each case that the oracle answers otherwise.
