@@ -18,10 +18,16 @@ fn spoiled(place: usize) -> (Vec<u8>, u32) {
     (image, word)
 }
 
+/// What is told of it. The sum can't tell 0 from 0xffffffff, and both are words.
+fn told(place: usize, word: u32) -> String {
+    let words = if word == 0 { vec![0, u32::MAX] } else { vec![word] };
+    words.iter().map(|word| format!("{place} {word:#010x}\n")).collect()
+}
+
 #[test]
 fn a_changed_word_is_told() {
     let (image, word) = spoiled(96);
-    let line = format!("96 {word:#010x}\n");
+    let line = told(96, word);
     let stick = Image::of("words", &image);
     assert_eq!(out(stick.run(&["words"], &["1"])), line);
     assert_eq!(out(stick.run(&["words"], &["2"])), NONE);
@@ -31,11 +37,18 @@ fn a_changed_word_is_told() {
 }
 
 #[test]
+fn a_word_that_is_not_0_has_one_line() {
+    let (image, word) = spoiled(24);
+    assert!(word != 0 && told(24, word).lines().count() == 1);
+    assert_eq!(out(Image::of("words-one", &image).run(&["words"], &["1"])), told(24, word));
+}
+
+#[test]
 fn a_stick_that_does_not_open_is_read() {
     let (mut image, word) = spoiled(2000);
     image[..BLOCK].fill(0);
     let stick = Image::of("words-dead", &image);
-    assert_eq!(out(stick.run(&["words"], &["1"])), format!("2000 {word:#010x}\n"));
+    assert_eq!(out(stick.run(&["words"], &["1"])), told(2000, word));
     assert_eq!(out(stick.run(&["words"], &["0"])), NONE);
     let whole = Image::of("words-32", &[0; 32]);
     assert_eq!(out(whole.run(&["--block-size", "32", "words"], &["0"])), NONE);
