@@ -64,6 +64,27 @@ fn changed(mut object: Vec<u8>, place: usize, word: u32, kind: &'static str) -> 
     Drawn { object, kind, planted }
 }
 
+/// Of a length that no object has, and but for that with a wrong word.
+fn unfit(object: Vec<u8>, at: usize, r: &mut Random) -> Vec<u8> {
+    if r.chance(1, 2) {
+        let mut short = sealed(r.pick(&[12, 16, 20, 24, 28]), r);
+        let at = place(&short, r);
+        put32(&mut short, at, r.draw() as u32);
+        return short;
+    }
+    let mut long = object;
+    put32(&mut long, at, r.draw() as u32);
+    long.extend(r.bytes(1 + r.clone().place(3)));
+    long
+}
+
+/// With stored halves that may be 0, its own, or a word's.
+fn with_halves(mut object: Vec<u8>, word: u32, r: &mut Random) -> Vec<u8> {
+    let halves = [r.pick(&[0, word, u32::MAX, get32(&object, 0)]), r.pick(&[0, word, get32(&object, 4)])];
+    put64(&mut object, 0, u64::from(halves[1]) << 32 | u64::from(halves[0]));
+    object
+}
+
 pub fn draw(r: &mut Random) -> Drawn {
     let kind = r.pick(&KINDS);
     let plain = |object: Vec<u8>| Drawn { object, kind, planted: None };
@@ -73,17 +94,7 @@ pub fn draw(r: &mut Random) -> Drawn {
     let word = get32(&object, at);
     match kind {
         "sound" => plain(object),
-        // Each but for its length has a wrong word.
-        "of no length" if r.chance(1, 2) => {
-            let short = sealed(r.pick(&[12, 16, 20, 24, 28]), r);
-            let at = place(&short, r);
-            plain(changed(short, at, r.draw() as u32, kind).object)
-        }
-        "of no length" => {
-            let mut long = changed(object, at, r.draw() as u32, kind).object;
-            long.extend(r.bytes(1 + r.clone().place(3)));
-            plain(long)
-        }
+        "of no length" => plain(unfit(object, at, r)),
         "random" => plain(r.bytes(n)),
         "one word changed" => changed(object, at, r.draw() as u32, kind),
         "one word off by a part of the modulus" => {
@@ -107,10 +118,6 @@ pub fn draw(r: &mut Random) -> Drawn {
             put32(&mut object, other, r.draw() as u32);
             plain(object)
         }
-        _ => {
-            let halves = [r.pick(&[0, word, u32::MAX, get32(&object, 0)]), r.pick(&[0, word, get32(&object, 4)])];
-            put64(&mut object, 0, u64::from(halves[1]) << 32 | u64::from(halves[0]));
-            plain(object)
-        }
+        _ => plain(with_halves(object, word, r)),
     }
 }
