@@ -7,3 +7,4 @@ pub mod Views
 pub mod Alike
 pub mod Opened
 pub mod Checkpoints
+pub mod WrongWords

@@ -1,3 +1,4 @@
 pub mod Call
 pub mod Opened
 pub mod Checkpoints
+pub mod WrongWords
