@@ -8,10 +8,11 @@ use Rattle.error.specs.Answer.{Answer, got}
 use Rattle.error.proofs.Laws.{at-most}
 use Rattle.lines.specs.Shown.{InodeShown, EntryShown, AttributeShown, Contents, packed, plain}
 use Rattle.demand.specs.Trace.{done, Trace, _then_, reading, within}
-use Rattle.demand.proofs.Tree.{Tree, node, Entries, none, entry, ofVolume}
+use Rattle.demand.specs.Tree.{Tree, node, Entries, none, entry, ofVolume}
 use Rattle.demand.specs.View.{View}
-use Rattle.demand.specs.Listing.{attributeLines, dataLine, entryForms, nodeForm, trace, listing, levels}
-use Rattle.demand.proofs.Shows.{heads, heard, ShowsContents, Shows, ShowsAll, trace-done}
+use Rattle.demand.specs.Listing.{attributeLines, dataLine, entryForms, nodeForm, footed, trace, listing, levels}
+use Rattle.demand.specs.Shows.{heads, heard, ShowsContents, Shows, ShowsAll}
+use Rattle.demand.proofs.Shows.{trace-done}
 use Rattle.demand.proofs.Walks.{heard-same}
 
 -- ---- a volume shows one tree
@@ -93,8 +94,8 @@ mutual
       ends-then _ _ refl (ends-then _ _ (node-end v t e.id d (p .0) (omega arith)) (ends-then _ _ refl (entries-end v es d (p .1) (omega arith))))
 
 trace-end : (v : View) (t : Tree) → Shows v 2 t → height t ≤ levels → trace v .ended ≡ done
-unfolding trace
-trace-end v t p h = ends-then _ _ refl (ends-then _ _ (node-end v t 2 levels p h) refl)
+unfolding trace footed
+trace-end v t p h = ends-then _ _ (ends-then _ _ refl (node-end v t 2 levels p h)) refl
 
 pub shown-listed : (v : View) (t : Tree) (room : ℕ) → Shows v 2 t → height t ≤ levels → length (ofVolume v.rule v.label t) ≤ room
     → listing v room ≡ got (ofVolume v.rule v.label t)

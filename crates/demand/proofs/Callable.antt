@@ -12,7 +12,8 @@ use Rattle.lines.specs.Shown.{InodeShown, EntryShown, AttributeShown, Contents,
 use Rattle.demand.specs.View.{View}
 use Rattle.demand.specs.Listing.{listing}
 use Rattle.demand.specs.Demand.{Met, Agree, past, on, AgreeTo, past-to, on-to, SameTo}
-use Rattle.demand.proofs.Shows.{ShowsNode, listing-done}
+use Rattle.demand.specs.Shows.{ShowsNode}
+use Rattle.demand.proofs.Shows.{listing-done}
 use Rattle.demand.proofs.Walks.{Reads, readOf, read-shown, Ends, ends-past, ends-on, ends}
 use Rattle.demand.proofs.Views.{listings-same}
 

@@ -16,7 +16,8 @@ use Rattle.demand.specs.View.{View}
 use Rattle.demand.specs.Listing.{isPacked, listing}
 use Rattle.demand.specs.Lookup.{lookup}
 use Rattle.demand.specs.Demand.{Bytes, viewOf, viewOfPart, viewAt, listingOf, lookupOf, Met, chain, Answered, AllAnswered, Unrefused, past-end, at-inode, Lister, DemandOn, ThirdDemand}
-use Rattle.demand.proofs.Shows.{heard, ShowsContents, listing-done}
+use Rattle.demand.specs.Shows.{heard, ShowsContents}
+use Rattle.demand.proofs.Shows.{listing-done}
 use Rattle.demand.proofs.Walks.{Reads, Ends, ends-past, ends-on, ends}
 use Rattle.demand.proofs.Views.{listings-same, lookups-same}
 use Rattle.demand.proofs.Callable.{Short, listings-same-to}

@@ -6,14 +6,15 @@ use mathlib.Core.List.{List, [], _∷_}
 use native.Mathlib.Omega.{arith}
 use lib.ListN.{take, drop}
 use lib.Seq.{take-nil, drop-nil}
-use Rattle.error.specs.Answer.{Answer, got, no, ifLe}
+use Rattle.error.specs.Answer.{Answer, got, no, ifLe, ifEq}
 use Rattle.error.specs.declared.Refusal.the-variants.{Corrupt, Unsupported}
 use Rattle.text.specs.Words.{ascii, places, digits, signed, pairs}
 use Rattle.lines.specs.Shown.{InodeShown}
-use Rattle.lines.specs.Lines.{volumeLine, nodeLine, contentsLine, close}
+use Rattle.lines.specs.Lines.{volumeLine, nodeLine, contentsLine, totalLine, close}
+use Rattle.totals.specs.Totals.{linesOf, begins, lineTotals, allLines, totalsOf}
 use Rattle.demand.specs.Trace.{_then_, reading, within}
 use Rattle.demand.specs.View.{View}
-use Rattle.demand.specs.Listing.{attributeLines, isPacked, dataLine, entryForms, nodeForm, trace, listing}
+use Rattle.demand.specs.Listing.{attributeLines, isPacked, dataLine, entryForms, nodeForm, footed, trace, listing}
 use Rattle.demand.specs.Demand.{here, place, onward, follow, chain, Agree, past, on, Same}
 use Rattle.demand.specs.Listers.{smallInode}
 use Rattle.demand.proofs.Walks.{Reads, follow-nowhere}
@@ -68,12 +69,12 @@ tangled-reads = record {
 clean-tangled : Same clean tangled
 clean-tangled = lone-same 0 (got []) (no Corrupt) (got [])
 
-clean-listed : listing clean 65_536 ≡ got (ascii "(volume 0 0 x\n(node 2 1 2 0 0 0 0 0 0 0 0 0 16877 - -\n(data x)\n)\n)\n" [])
-unfolding listing within ifLe trace nodeForm attributeLines dataLine entryForms reading _then_ volumeLine nodeLine contentsLine close signed digits places pairs
+clean-listed : listing clean 65_536 ≡ got (ascii "(volume 0 0 x\n(node 2 1 2 0 0 0 0 0 0 0 0 0 16877 - -\n(data x)\n)\n(total 1 0 0)\n)\n" [])
+unfolding listing within ifLe trace nodeForm attributeLines dataLine entryForms reading _then_ volumeLine nodeLine contentsLine totalLine close footed totalsOf linesOf allLines lineTotals begins ifEq signed digits places pairs
 clean-listed = refl
 
 tangled-refused : listing tangled 65_536 ≡ no Corrupt
-unfolding listing within ifLe trace nodeForm attributeLines dataLine entryForms reading _then_ volumeLine nodeLine contentsLine close signed digits places pairs
+unfolding listing within ifLe trace nodeForm attributeLines dataLine entryForms reading _then_ volumeLine nodeLine contentsLine totalLine close footed totalsOf linesOf allLines lineTotals begins ifEq signed digits places pairs
 tangled-refused = refl
 
 -- 2. A packed file must read as 3 throughout. If it read as its bytes, equal listings could be of volumes that are not the same.
@@ -81,11 +82,11 @@ abbrev packed-as : ℕ → View
 packed-as b = lone 32 (no Unsupported) (got (b ∷ []))
 
 packed-listings : listing (packed-as 0) 65_536 ≡ listing (packed-as 1) 65_536
-unfolding listing within ifLe trace nodeForm attributeLines dataLine entryForms reading _then_ volumeLine nodeLine contentsLine close signed digits places pairs
+unfolding listing within ifLe trace nodeForm attributeLines dataLine entryForms reading _then_ volumeLine nodeLine contentsLine totalLine close footed totalsOf linesOf allLines lineTotals begins ifEq signed digits places pairs
 packed-listings = refl
 
-packed-listed : listing (packed-as 0) 65_536 ≡ got (ascii "(volume 0 0 x\n(node 2 1 2 0 0 0 0 0 0 32 0 0 16877 - -\n(packed)\n)\n)\n" [])
-unfolding listing within ifLe trace nodeForm attributeLines dataLine entryForms reading _then_ volumeLine nodeLine contentsLine close signed digits places pairs
+packed-listed : listing (packed-as 0) 65_536 ≡ got (ascii "(volume 0 0 x\n(node 2 1 2 0 0 0 0 0 0 32 0 0 16877 - -\n(packed)\n)\n(total 1 0 0)\n)\n" [])
+unfolding listing within ifLe trace nodeForm attributeLines dataLine entryForms reading _then_ volumeLine nodeLine contentsLine totalLine close footed totalsOf linesOf allLines lineTotals begins ifEq signed digits places pairs
 packed-listed = refl
 
 packed-differ : Same (packed-as 0) (packed-as 1) → ⊥

@@ -5,14 +5,15 @@ use mathlib.Core.Bool.{true, false, cond}
 use mathlib.Core.List.{List, [], _∷_}
 use lib.Dec.{eqb, ltb}
 use lib.ListN.{take, drop, length}
-use Rattle.error.specs.Answer.{Answer, got, no, ifLe}
+use Rattle.error.specs.Answer.{Answer, got, no, ifLe, ifEq}
 use Rattle.error.specs.declared.Refusal.the-variants.{Corrupt, BufferTooShort, Overflow, TooDeep}
 use Rattle.text.specs.Words.{ascii, places, digits, signed, glyph, pairs}
-use Rattle.lines.specs.Shown.{EntryShown, AttributeShown}
-use Rattle.lines.specs.Lines.{volumeLine, nodeLine, contentsLine, entryLine, close}
+use Rattle.lines.specs.Shown.{EntryShown, AttributeShown, embedded}
+use Rattle.lines.specs.Lines.{volumeLine, nodeLine, formText, attributeLine, contentsLine, entryLine, totalLine, close}
+use Rattle.totals.specs.Totals.{linesOf, begins, lineTotals, allLines, totalsOf}
 use Rattle.demand.specs.Trace.{done, stop, _then_, reading, within}
 use Rattle.demand.specs.View.{View}
-use Rattle.demand.specs.Listing.{attributeLines, dataLine, entryForms, nodeForm, trace, listing}
+use Rattle.demand.specs.Listing.{attributeLines, dataLine, entryForms, nodeForm, footed, trace, listing}
 use Rattle.demand.specs.Demand.{here, nowhere, place, onward, follow, chain}
 use Rattle.demand.specs.Listers.{smallInode}
 
@@ -34,15 +35,32 @@ plain es l = record {
 abbrev bare : View
 bare = plain (λ i. got []) (λ i. got [])
 
--- document 01's example
-bare-listed : listing bare 65_536 ≡ got (ascii "(volume 1 0 x41\n(node 2 1 2 0 0 0 0 0 0 0 0 0 16877 - -\n(data x)\n)\n)\n" [])
-unfolding listing within ifLe trace nodeForm attributeLines dataLine entryForms reading _then_ volumeLine nodeLine contentsLine entryLine close signed digits places pairs glyph
+-- document 01's example, with the line that request 08 gives it
+bare-listed : listing bare 65_536 ≡ got (ascii "(volume 1 0 x41\n(node 2 1 2 0 0 0 0 0 0 0 0 0 16877 - -\n(data x)\n)\n(total 1 0 0)\n)\n" [])
+unfolding listing within ifLe trace nodeForm attributeLines dataLine entryForms reading _then_ volumeLine nodeLine contentsLine entryLine totalLine close footed totalsOf linesOf allLines lineTotals begins ifEq signed digits places pairs glyph
 bare-listed = refl
 
--- 69 bytes: 6 in a room of 68, not in one of 69
-bare-short : listing bare 68 ≡ no BufferTooShort
-unfolding listing within ifLe trace nodeForm attributeLines dataLine entryForms reading _then_ volumeLine nodeLine contentsLine entryLine close signed digits places pairs glyph
+-- 83 bytes: 6 in a room of 82, not in one of 83
+bare-short : listing bare 82 ≡ no BufferTooShort
+unfolding listing within ifLe trace nodeForm attributeLines dataLine entryForms reading _then_ volumeLine nodeLine contentsLine entryLine totalLine close footed totalsOf linesOf allLines lineTotals begins ifEq signed digits places pairs glyph
 bare-short = refl
+
+-- request 08: "a hard-linked file counting as often as it is printed and a packed one with 0 bytes". The root has file 3 twice and file 4 once, which is
+-- packed; each has an attribute of three bytes, and 3 has two bytes of its own
+abbrev linked : View
+linked = record {
+  label = 65 ∷ [];
+  rule = record { «case_insensitive» = true; «normalization_insensitive» = false };
+  inode = λ i. got (smallInode (cond (eqb i 4) 32 0) i);
+  entries = λ i. got (cond (eqb i 2) (child 3 (97 ∷ []) ∷ child 3 (98 ∷ []) ∷ child 4 (99 ∷ []) ∷ []) []);
+  attributes = λ i. got (cond (eqb i 2) [] (record { flags = 2; label = 120 ∷ []; form = embedded; contents = got (1 ∷ 2 ∷ 3 ∷ []) } ∷ []));
+  contents = λ i. got (cond (eqb i 2) [] (5 ∷ 6 ∷ []));
+  read = λ i off len. got [];
+}
+
+linked-foot : drop (length (trace linked .text) - 16) (trace linked .text) ≡ ascii "(total 4 4 3)\n)\n" []
+unfolding trace nodeForm attributeLines dataLine entryForms reading _then_ volumeLine nodeLine formText attributeLine contentsLine entryLine totalLine close footed totalsOf linesOf allLines lineTotals begins ifEq signed digits places pairs glyph
+linked-foot = refl
 
 -- inodes 2 to `last`, each in the one before it
 abbrev tower : ℕ → View
@@ -50,16 +68,16 @@ tower last = plain (λ i. got (cond (ltb i last) (child (i + 1) (97 ∷ []) ∷ 
 
 -- depth 64 is listed, 65 is not
 tower-64 : trace (tower 66) .ended ≡ done
-unfolding trace nodeForm attributeLines dataLine entryForms reading _then_ volumeLine nodeLine contentsLine entryLine close signed digits places pairs glyph
+unfolding trace nodeForm attributeLines dataLine entryForms reading _then_ volumeLine nodeLine contentsLine entryLine totalLine close footed totalsOf linesOf allLines lineTotals begins ifEq signed digits places pairs glyph
 tower-64 = refl
 
 tower-65 : trace (tower 67) .ended ≡ stop TooDeep
-unfolding trace nodeForm attributeLines dataLine entryForms reading _then_ volumeLine nodeLine contentsLine entryLine close signed digits places pairs glyph
+unfolding trace nodeForm attributeLines dataLine entryForms reading _then_ volumeLine nodeLine contentsLine entryLine totalLine close footed totalsOf linesOf allLines lineTotals begins ifEq signed digits places pairs glyph
 tower-65 = refl
 
 -- 10 comes after the entry's line, before the inode: the text ends so
 tower-65-text : drop (length (trace (tower 67) .text) - 28) (trace (tower 67) .text) ≡ ascii "\n(data x)\n(entry 67 7 4 x61\n" []
-unfolding trace nodeForm attributeLines dataLine entryForms reading _then_ volumeLine nodeLine contentsLine entryLine close signed digits places pairs glyph
+unfolding trace nodeForm attributeLines dataLine entryForms reading _then_ volumeLine nodeLine contentsLine entryLine totalLine close footed totalsOf linesOf allLines lineTotals begins ifEq signed digits places pairs glyph
 tower-65-text = refl
 
 -- a fault in reading the root's attributes: it counts once the node's line, which comes before, has room; else 6 does
@@ -67,11 +85,11 @@ abbrev faulty : View
 faulty = plain (λ i. no Overflow) (λ i. no Corrupt)
 
 faulty-listed : listing faulty 56 ≡ no Corrupt
-unfolding listing within ifLe trace nodeForm attributeLines dataLine entryForms reading _then_ volumeLine nodeLine contentsLine entryLine close signed digits places pairs glyph
+unfolding listing within ifLe trace nodeForm attributeLines dataLine entryForms reading _then_ volumeLine nodeLine contentsLine entryLine totalLine close footed totalsOf linesOf allLines lineTotals begins ifEq signed digits places pairs glyph
 faulty-listed = refl
 
 faulty-short : listing faulty 55 ≡ no BufferTooShort
-unfolding listing within ifLe trace nodeForm attributeLines dataLine entryForms reading _then_ volumeLine nodeLine contentsLine entryLine close signed digits places pairs glyph
+unfolding listing within ifLe trace nodeForm attributeLines dataLine entryForms reading _then_ volumeLine nodeLine contentsLine entryLine totalLine close footed totalsOf linesOf allLines lineTotals begins ifEq signed digits places pairs glyph
 faulty-short = refl
 
 -- chains: `b` and `A` at the root, `é` below `b`

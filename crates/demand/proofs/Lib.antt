@@ -1,7 +1,7 @@
-pub mod Tree
 pub mod Codes
 pub mod TreeLaws
 pub mod Shows
+pub mod TreeTotals
 pub mod Walks
 pub mod Back
 pub mod Views
@@ -13,6 +13,7 @@ pub mod Reading
 pub mod Lookups
 pub mod Parts
 pub mod Demand
+pub mod Foot
 pub mod Edges
 pub mod Examples
 pub mod Listers

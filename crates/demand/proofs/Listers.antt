@@ -6,16 +6,17 @@ use mathlib.Core.List.{List, [], _∷_}
 use native.Mathlib.Omega.{arith}
 use lib.Dec.{eqb}
 use lib.ListN.{length}
-use Rattle.error.specs.Answer.{Answer, got}
+use Rattle.error.specs.Answer.{Answer, got, ifEq}
 use Rattle.error.proofs.Laws.{got-is, at-most}
 use Rattle.volume.specs.Open.{latest}
 use Rattle.volume.specs.declared.Which.{Which}
 use Rattle.text.specs.Words.{ascii, places, digits, signed, glyph, pairs}
 use Rattle.lines.specs.Shown.{InodeShown}
-use Rattle.lines.specs.Lines.{volumeLine, nodeLine, contentsLine, entryLine, close}
+use Rattle.lines.specs.Lines.{volumeLine, nodeLine, contentsLine, entryLine, totalLine, close}
+use Rattle.totals.specs.Totals.{linesOf, begins, lineTotals, allLines, totalsOf}
 use Rattle.demand.specs.Trace.{Trace, says, _then_, reading, within}
 use Rattle.demand.specs.View.{View}
-use Rattle.demand.specs.Listing.{attributeLines, dataLine, entryForms, nodeForm, trace, listing}
+use Rattle.demand.specs.Listing.{attributeLines, dataLine, entryForms, nodeForm, footed, trace, listing}
 use Rattle.demand.specs.Demand.{here, place, onward, follow, Agree, past, on, Same, DemandOn}
 use Rattle.demand.specs.Listers.{writing, ours, fixedText, rootAlone, imageItself, smallInode, smallFile, smallView, smallAt, smallFind, ShutOut, WrongListers}
 use Rattle.demand.proofs.Walks.{Reads}
@@ -74,8 +75,8 @@ small-met = demand-met smallAt smallFind (writing ours smallAt) (λ image index 
 
 -- its whole listing
 small-listed : trace (smallView 0)
-    ≡ says (ascii "(volume 0 0 x41\n(node 2 1 2 0 0 0 0 0 0 0 0 0 16877 - -\n(data x)\n(entry 3 0 4 x61\n(node 3 1 3 0 0 0 0 0 0 0 0 0 16877 - -\n(data x)\n(entry 4 0 8 x62\n(node 4 1 4 0 0 0 0 0 0 0 0 0 16877 - -\n(data x00)\n)\n)\n)\n)\n)\n)\n" [])
-unfolding trace nodeForm attributeLines dataLine entryForms reading _then_ volumeLine nodeLine contentsLine entryLine close signed digits places pairs glyph
+    ≡ says (ascii "(volume 0 0 x41\n(node 2 1 2 0 0 0 0 0 0 0 0 0 16877 - -\n(data x)\n(entry 3 0 4 x61\n(node 3 1 3 0 0 0 0 0 0 0 0 0 16877 - -\n(data x)\n(entry 4 0 8 x62\n(node 4 1 4 0 0 0 0 0 0 0 0 0 16877 - -\n(data x00)\n)\n)\n)\n)\n)\n(total 3 1 0)\n)\n" [])
+unfolding trace nodeForm attributeLines dataLine entryForms reading _then_ volumeLine nodeLine contentsLine entryLine totalLine close footed totalsOf linesOf allLines lineTotals begins ifEq signed digits places pairs glyph
 small-listed = refl
 
 -- the same where its file is the same
@@ -96,8 +97,8 @@ small-differ s = go (s .chains (0 ∷ 0 ∷ []))
         let z : _≡_ {A = ℕ} 0 1 = cc in omega arith
 
 root-written : (b : ℕ) → rootAlone (b ∷ []) (smallView b)
-    ≡ says (ascii "(volume 0 0 x41\n(node 2 1 2 0 0 0 0 0 0 0 0 0 16877 - -\n(data x)\n(entry 3 0 4 x61\n)\n)\n)\n" [])
-unfolding rootAlone attributeLines dataLine entryForms reading _then_ volumeLine nodeLine contentsLine entryLine close signed digits places pairs glyph
+    ≡ says (ascii "(volume 0 0 x41\n(node 2 1 2 0 0 0 0 0 0 0 0 0 16877 - -\n(data x)\n(entry 3 0 4 x61\n)\n)\n(total 1 0 0)\n)\n" [])
+unfolding rootAlone attributeLines dataLine entryForms reading _then_ volumeLine nodeLine contentsLine entryLine totalLine close footed totalsOf linesOf allLines lineTotals begins ifEq signed digits places pairs glyph
 root-written b = refl
 
 pub wrong-listers : WrongListers

@@ -1,5 +1,4 @@
--- A volume shows a tree where what it answers is what stands in the tree. A listing that was not refused is the text of a tree that
--- its volume shows.
+-- A listing that was not refused is the text of a tree that its volume shows.
 use Prim.Native.Nat.{ℕ, zero, suc}
 use mathlib.Core.Path.{_≡_, refl, sym, ap, subst, _∙_}
 use mathlib.Core.Bool.{Bool, true, false}
@@ -10,38 +9,14 @@ use Rattle.error.specs.declared.Refusal.{Refusal}
 use Rattle.error.specs.declared.Refusal.the-variants.{TooDeep}
 use Rattle.error.proofs.Laws.{le-cases}
 use Rattle.lines.specs.Shown.{InodeShown, EntryShown, AttributeShown, Contents, packed, plain}
-use Rattle.lines.specs.Lines.{contentsLine, close}
+use Rattle.lines.specs.Lines.{volumeLine, contentsLine, close}
+use Rattle.totals.specs.Totals.{totalsOf}
 use Rattle.demand.specs.Trace.{End, done, stop, Trace, says, goOn, _then_, reading, textOr, within}
-use Rattle.demand.proofs.Tree.{Tree, node, Entries, none, entry, ofAttributes, ofTree, ofEntries, ofVolume}
+use Rattle.demand.specs.Tree.{Tree, node, Entries, none, entry, ofAttributes, ofTree, ofEntries, foot, ofVolume}
 use Rattle.demand.specs.View.{View}
-use Rattle.demand.specs.Listing.{holding, attributeLines, isPacked, dataLine, entryForms, nodeForm, trace, listing, levels}
+use Rattle.demand.specs.Shows.{heads, heard, ShowsContents, ShowsNode, Shows, ShowsAll}
+use Rattle.demand.specs.Listing.{holding, attributeLines, isPacked, dataLine, entryForms, nodeForm, footed, footLines, trace, listing, levels}
 use Rattle.demand.proofs.TreeLaws.{Writes, volume-writes, node-writes, attribute-writes, contents-writes, entry-writes, close-writes, _next_}
-
-abbrev pub heads : Entries → List EntryShown
-heads none = []
-heads (entry e t es) = e ∷ heads es
-
-abbrev pub heard : AttributeShown (List ℕ) → AttributeShown (Answer (List ℕ))
-heard a = holding a (got a.contents)
-
-abbrev pub ShowsContents : View → InodeShown → Contents → Type 0
-ShowsContents v f packed = isPacked f ≡ true
-ShowsContents v f (plain bs) = (isPacked f ≡ false) × (v.contents f.id ≡ got bs)
-
--- one node, without what is below its entries
-pub record ShowsNode (v : View) (i : ℕ) (f : InodeShown) (l : List (AttributeShown (List ℕ))) (c : Contents) (es : List EntryShown) : Type 0 where
-  pub inode : v.inode i ≡ got f
-  pub attributes : v.attributes f.id ≡ got (map heard l)
-  pub entries : v.entries f.id ≡ got es
-  pub contents : ShowsContents v f c
-
-abbrev mutual
-  pub Shows : View → ℕ → Tree → Type 0
-  Shows v i (node f l c es) = ShowsNode v i f l c (heads es) × ShowsAll v es
-
-  pub ShowsAll : View → Entries → Type 0
-  ShowsAll v none = Unit
-  ShowsAll v (entry e t es) = Shows v e.id t × ShowsAll v es
 
 -- ---- traces that were done
 
@@ -170,16 +145,15 @@ pub record Listed (v : View) (s : List ℕ) : Type 0 where
   pub text : s ≡ ofVolume v.rule v.label tree
 
 pub trace-done : (v : View) {s : List ℕ} → trace v ≡ says s → Listed v s
-unfolding trace
+unfolding trace footed _then_
 trace-done v {s} h =
     then-done _ _ h λ a b ha hb e.
-    then-done _ _ hb λ c d hc hd e′.
-    let t = node-done v levels 2 c hc in
-    record {
-      tree = t .tree;
-      shows = t .shows;
-      text = sym (moved (said (volume-writes v.rule v.label) ha next t .text next said close-writes hd) (ap (a ++_) e′ ∙ e) .before [] ∙ append-nil s);
-    }
+    then-done _ _ ha λ c d hc hd e′.
+    let t = node-done v levels 2 d hd in
+    let above : a ≡ volumeLine (v.rule .«case_insensitive») (v.rule .«normalization_insensitive») v.label (ofTree (t .tree) [])
+    = sym (moved (said (volume-writes v.rule v.label) hc next t .text) e′ .before [] ∙ append-nil a) in
+    let text : (says (volumeLine (v.rule .«case_insensitive») (v.rule .«normalization_insensitive») v.label []) then nodeForm v levels 2) .text ≡ a = ap (λ z. z .text) ha in
+    record { tree = t .tree; shows = t .shows; text = sym e ∙ ap (a ++_) (sym (ap (λ z. z .text) hb) ∙ ap (λ (x : List ℕ). footLines (totalsOf x)) text) ∙ ap foot above }
 
 pub listing-done : (v : View) (m : ℕ) {s : List ℕ} → listing v m ≡ got s → Listed v s
 unfolding listing

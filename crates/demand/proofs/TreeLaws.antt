@@ -2,14 +2,16 @@
 use Prim.Native.Nat.{ℕ}
 use mathlib.Core.Path.{_≡_, refl, sym, ap, _∙_}
 use mathlib.Core.Bool.{Bool, true, false}
-use mathlib.Core.List.{List, [], _∷_, _++_, append-assoc}
+use mathlib.Core.List.{List, [], _∷_, _++_, append-assoc, append-nil}
 use lib.ListN.{drop}
 use native.Mathlib.Omega.{arith}
 use Rattle.volume.specs.declared.rule.NameRule.{NameRule}
 use Rattle.lines.specs.Shown.{InodeShown, EntryShown, AttributeShown, Form, embedded, streamed, Contents, packed, plain}
 use Rattle.lines.specs.Lines.{bit, volumeLine, nodeLine, formText, attributeLine, contentsLine, entryLine, close}
 use Rattle.lines.proofs.After.{volume-append, node-append, attribute-append, contents-append, entry-append, close-append}
-use Rattle.demand.proofs.Tree.{Tree, node, Entries, none, entry, ofAttributes, ofTree, ofEntries, ofVolume}
+use Rattle.totals.specs.Totals.{totalsOf}
+use Rattle.demand.specs.Listing.{footLines}
+use Rattle.demand.specs.Tree.{Tree, node, Entries, none, entry, ofAttributes, ofTree, ofEntries, ofVolume}
 use Rattle.demand.proofs.Codes.{Code, num, int, hex, name, two, _&_, as-parts, same, apart}
 
 abbrev fieldsCode : Code InodeShown
@@ -81,14 +83,6 @@ pub record SameText (r q : NameRule) (l m : List ℕ) (t u : Tree) : Type 0 wher
   pub label : l ≡ m
   pub tree : t ≡ u
 
-pub volume-same : (r q : NameRule) (l m : List ℕ) (t u : Tree) → ofVolume r l t ≡ ofVolume q m u → SameText r q l m t u
-unfolding volumeLine
-volume-same r q l m t u e =
-    let p = same (num & num & hex) (bit (r .«case_insensitive»), (bit (r .«normalization_insensitive»), l)) (bit (q .«case_insensitive»), (bit (q .«normalization_insensitive»), m)) (ap (drop 8) e) tt tt in
-    let c = bit-same (r .«case_insensitive») (q .«case_insensitive») (ap (λ z. z .0) (p .0)) in
-    let n = bit-same (r .«normalization_insensitive») (q .«normalization_insensitive») (ap (λ z. z .1 .0) (p .0)) in
-    record { rule = λ i. record { «case_insensitive» = c i; «normalization_insensitive» = n i }; label = ap (λ z. z .1 .1) (p .0); tree = tree-same t u (ap (drop 1) (p .1)) .0 }
-
 -- ---- what follows a text only follows it: of a function that takes what follows, the text that it puts before that
 
 pub record Writes (f : List ℕ → List ℕ) (s : List ℕ) : Type 0 where
@@ -116,3 +110,39 @@ close-writes = record { before = close-append }
 infixr 50 _next_
 pub _next_ : {f g : List ℕ → List ℕ} {s r : List ℕ} → Writes f s → Writes g r → Writes (λ x. f (g x)) (s ++ r)
 _next_ {f} {g} {s} {r} p q = record { before = λ x. p .before (g x) ∙ ap (s ++_) (q .before x) ∙ sym (append-assoc s r x) }
+
+-- ---- of a tree, and of a volume
+
+attrs-writes : (l : List (AttributeShown (List ℕ))) (c : Contents) → (s : List ℕ) × Writes (ofAttributes l c) s
+attrs-writes [] c = (contentsLine c [], contents-writes c)
+attrs-writes (a ∷ l) c = let w = attrs-writes l c in (attributeLine a [] ++ w .0, attribute-writes a next w .1)
+
+mutual
+  tree-writes : (t : Tree) → (s : List ℕ) × Writes (ofTree t) s
+  tree-writes (node f l c es) =
+      let a = attrs-writes l c in
+      let b = entries-writes es in
+      (nodeLine f [] ++ (a .0 ++ b .0), node-writes f next a .1 next b .1)
+
+  entries-writes : (es : Entries) → (s : List ℕ) × Writes (ofEntries es) s
+  entries-writes none = (close [], close-writes)
+  entries-writes (entry e t es) =
+      let a = tree-writes t in
+      let b = entries-writes es in
+      (entryLine e [] ++ (a .0 ++ (close [] ++ b .0)), entry-writes e next a .1 next close-writes next b .1)
+
+follows : {f : List ℕ → List ℕ} {s : List ℕ} → Writes f s → (x : List ℕ) → f [] ++ x ≡ f x
+follows {f} {s} p x = ap (_++ x) (p .before [] ∙ append-nil s) ∙ sym (p .before x)
+
+pub volume-split : (r : NameRule) (l : List ℕ) (t : Tree) → ofVolume r l t
+    ≡ volumeLine (r .«case_insensitive») (r .«normalization_insensitive») l (ofTree t (footLines (totalsOf (volumeLine (r .«case_insensitive») (r .«normalization_insensitive») l (ofTree t [])))))
+volume-split r l t = follows (volume-writes r l next tree-writes t .1) _
+
+pub volume-same : (r q : NameRule) (l m : List ℕ) (t u : Tree) → ofVolume r l t ≡ ofVolume q m u → SameText r q l m t u
+unfolding volumeLine
+volume-same r q l m t u h =
+    let e = sym (volume-split r l t) ∙ h ∙ volume-split q m u in
+    let p = same (num & num & hex) (bit (r .«case_insensitive»), (bit (r .«normalization_insensitive»), l)) (bit (q .«case_insensitive»), (bit (q .«normalization_insensitive»), m)) (ap (drop 8) e) tt tt in
+    let c = bit-same (r .«case_insensitive») (q .«case_insensitive») (ap (λ z. z .0) (p .0)) in
+    let n = bit-same (r .«normalization_insensitive») (q .«normalization_insensitive») (ap (λ z. z .1 .0) (p .0)) in
+    record { rule = λ i. record { «case_insensitive» = c i; «normalization_insensitive» = n i }; label = ap (λ z. z .1 .1) (p .0); tree = tree-same t u (ap (drop 1) (p .1)) .0 }

@@ -9,13 +9,14 @@ use Rattle.error.specs.declared.Refusal.the-variants.{PathNotUtf8}
 use Rattle.utf8.specs.Text.{strict}
 use Rattle.paths.specs.Parts.{partsOf}
 use Rattle.lines.specs.Shown.{InodeShown}
-use Rattle.demand.proofs.Tree.{ofVolume}
+use Rattle.demand.specs.Tree.{ofVolume}
 use Rattle.demand.specs.View.{View}
 use Rattle.demand.specs.Listing.{listing}
 use Rattle.demand.specs.Lookup.{lookup}
 use Rattle.demand.specs.Demand.{Met, met, onward, follow, chain, Agree, past, on, Same}
 use Rattle.demand.proofs.TreeLaws.{SameText, volume-same}
-use Rattle.demand.proofs.Shows.{Shows, Listed, listing-done}
+use Rattle.demand.specs.Shows.{Shows}
+use Rattle.demand.proofs.Shows.{Listed, listing-done}
 use Rattle.demand.proofs.Walks.{Reads, Ends, ends-past, ends-on, ends, read-shown, tree-same, descend-same}
 
 module _ (v w : View) where

@@ -15,12 +15,12 @@ use Rattle.paths.specs.Names.{wide, sameKeys}
 use Rattle.paths.specs.Find.{exactMatch, keyMatch, findEntry}
 use Rattle.volume.specs.declared.rule.NameRule.{NameRule}
 use Rattle.lines.specs.Shown.{InodeShown, EntryShown, AttributeShown, Contents, packed, plain}
-use Rattle.demand.proofs.Tree.{Tree, node, Entries, none, entry}
+use Rattle.demand.specs.Tree.{Tree, node, Entries, none, entry}
 use Rattle.demand.specs.View.{View}
 use Rattle.demand.specs.Listing.{holding, isPacked}
 use Rattle.demand.specs.Lookup.{entryLabel, descend}
 use Rattle.demand.specs.Demand.{Met, here, nowhere, met, place, onward, follow, Agree, past, on}
-use Rattle.demand.proofs.Shows.{heads, heard, ShowsNode, Shows, ShowsAll}
+use Rattle.demand.specs.Shows.{heads, heard, ShowsNode, Shows, ShowsAll}
 
 -- what the demand rests on: the law of file reads, of each inode that there is, at every offset and length
 pub record Reads (v : View) : Type 0 where

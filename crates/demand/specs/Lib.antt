@@ -1,6 +1,9 @@
 pub mod Trace
 pub mod View
 pub mod Listing
+pub mod Tree
+pub mod Shows
 pub mod Lookup
 pub mod Demand
+pub mod Foot
 pub mod Listers

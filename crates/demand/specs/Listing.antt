@@ -1,4 +1,4 @@
--- The listing. Document 01, "The listing (added)".
+-- The listing. Document 01, "The listing (added)"; its foot, document 02, request 08.
 use Prim.Native.Nat.{ℕ, zero, suc}
 use mathlib.Core.Bool.{Bool}
 use mathlib.Core.List.{List, [], _∷_}
@@ -8,7 +8,9 @@ use Rattle.error.specs.declared.Refusal.the-variants.{TooDeep}
 use Rattle.inode_record.specs.Inode.{compressedBit}
 use Rattle.lists.specs.Lists.{rootId}
 use Rattle.lines.specs.Shown.{InodeShown, EntryShown, AttributeShown, packed, plain}
-use Rattle.lines.specs.Lines.{volumeLine, nodeLine, attributeLine, contentsLine, entryLine, close}
+use Rattle.lines.specs.Lines.{volumeLine, nodeLine, attributeLine, contentsLine, entryLine, totalLine, close}
+use Rattle.totals.specs.Totals.{totalsOf}
+use Rattle.totals.specs.declared.Totals.{Totals}
 use Rattle.demand.specs.Trace.{Trace, says, refuses, _then_, reading, within}
 use Rattle.demand.specs.View.{View}
 
@@ -54,9 +56,17 @@ nodeForm v (suc d) i = formOver v (nodeForm v d) i
 abbrev pub levels : ℕ
 levels = 65
 
+-- "Before the last bracket comes `(total NODES BYTES ATTRS)`": the totals, and the last bracket
+abbrev pub footLines : Totals → List ℕ
+footLines t = totalLine (t .nodes) (t .bytes) (t .attrs) (close [])
+
+-- "Each equals the count over the lines above it"
+unfoldable pub footed : Trace → Trace
+footed t = t then says (footLines (totalsOf (t .text)))
+
 -- "`(volume C N LABEL` .. Then the root's node form, then `)`"
 abbrev pub volumeOver : View → Trace → Trace
-volumeOver v root = says (volumeLine (v.rule .«case_insensitive») (v.rule .«normalization_insensitive») v.label []) then root then says (close [])
+volumeOver v root = footed (says (volumeLine (v.rule .«case_insensitive») (v.rule .«normalization_insensitive») v.label []) then root)
 
 unfoldable pub trace : View → Trace
 trace v = volumeOver v (nodeForm v levels rootId)

@@ -13,7 +13,7 @@ use Rattle.inode_record.specs.declared.inode.Inode.{Inode}
 use Rattle.inode_record.specs.declared.inode.Times.{Times}
 use Rattle.inode_record.specs.declared.inode.Owner.{Owner}
 use Rattle.lines.specs.Shown.{InodeShown, EntryShown, Form, embedded, streamed, AttributeShown, Contents, packed, plain, nameShown, streamShown, inodeShown}
-use Rattle.lines.specs.Lines.{bit, volumeLine, nodeLine, formText, attributeLine, contentsLine, entryLine, extentLine, close}
+use Rattle.lines.specs.Lines.{bit, volumeLine, nodeLine, formText, attributeLine, contentsLine, entryLine, extentLine, totalLine, close}
 use Rattle.lines.specs.Inner.{formHead, attributeHead, timeWords, ownerWords, nodeHead}
 
 -- a word: what follows it only follows it
@@ -90,6 +90,10 @@ entry-append e x = ap (ascii "(entry") (words-append (num (e .id) ∷ num (e .«
 pub extent-append : (e : Extent) (x : List ℕ) → extentLine e x ≡ extentLine e [] ++ x
 unfolding extentLine
 extent-append e x = ap (ascii "(extent") (words-append (num (e .logical) ∷ num (e .len) ∷ num (e .«phys_block») ∷ []) (41 ∷ 10 ∷ []) x)
+
+pub total-append : (n b a : ℕ) (x : List ℕ) → totalLine n b a x ≡ totalLine n b a [] ++ x
+unfolding totalLine
+total-append n b a x = ap (ascii "(total") (words-append (num n ∷ num b ∷ num a ∷ []) (41 ∷ 10 ∷ []) x)
 
 pub close-append : (x : List ℕ) → close x ≡ close [] ++ x
 unfolding close

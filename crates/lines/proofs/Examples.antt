@@ -6,7 +6,7 @@ use mathlib.Core.Option.{none, some}
 use lib.IntN.{pos, negsuc}
 use Rattle.text.specs.Words.{ascii, places, digits, signed, glyph, pairs}
 use Rattle.lines.specs.Shown.{InodeShown, embedded, streamed, packed, plain}
-use Rattle.lines.specs.Lines.{volumeLine, nodeLine, formText, attributeLine, contentsLine, entryLine, extentLine, close}
+use Rattle.lines.specs.Lines.{volumeLine, nodeLine, formText, attributeLine, contentsLine, entryLine, extentLine, totalLine, close}
 
 -- "an empty root of mode 16877, parent 1, private id 2 and all else 0"
 abbrev root : InodeShown
@@ -33,10 +33,10 @@ root-line : nodeLine root [] ≡ ascii "(node 2 1 2 0 0 0 0 0 0 0 0 0 16877 - -\
 unfolding nodeLine digits places signed
 root-line = refl
 
--- "For a volume "A", case-insensitive", the whole listing
-sample : volumeLine true false (65 ∷ []) (nodeLine root (contentsLine (plain []) (close (close []))))
-    ≡ ascii "(volume 1 0 x41\n(node 2 1 2 0 0 0 0 0 0 0 0 0 16877 - -\n(data x)\n)\n)\n" []
-unfolding volumeLine nodeLine contentsLine close digits places signed glyph pairs
+-- "For a volume "A", case-insensitive", the whole listing, with document 02's `(total 1 0 0)`
+sample : volumeLine true false (65 ∷ []) (nodeLine root (contentsLine (plain []) (close (totalLine 1 0 0 (close [])))))
+    ≡ ascii "(volume 1 0 x41\n(node 2 1 2 0 0 0 0 0 0 0 0 0 16877 - -\n(data x)\n)\n(total 1 0 0)\n)\n" []
+unfolding volumeLine nodeLine contentsLine totalLine close digits places signed glyph pairs
 sample = refl
 
 -- an empty name is no absent one; sizes and a count of links below zero

@@ -45,6 +45,10 @@ entryLine e x = ascii "(entry" (words (digits (e .id) ∷ digits (e .«date_adde
 unfoldable pub extentLine : Extent → List ℕ → List ℕ
 extentLine e x = ascii "(extent" (words (digits (e .logical) ∷ digits (e .len) ∷ digits (e .«phys_block») ∷ []) (ascii ")\n" x))
 
+-- `(total NODES BYTES ATTRS)`: document 02, request 08
+unfoldable pub totalLine : ℕ → ℕ → ℕ → List ℕ → List ℕ
+totalLine n b a x = ascii "(total" (words (digits n ∷ digits b ∷ digits a ∷ []) (ascii ")\n" x))
+
 -- "Then `)`"
 unfoldable pub close : List ℕ → List ℕ
 close x = ascii ")\n" x

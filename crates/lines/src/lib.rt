@@ -9,4 +9,5 @@ pub use attribute::put_attribute_head;
 pub use inode::put_node_line;
 pub use line::put_entry_line;
 pub use line::put_extent_line;
+pub use line::put_total_line;
 pub use line::put_volume_line;

@@ -1,4 +1,4 @@
-// The lines of a volume, a directory entry and an extent.
+// The lines of a volume, a directory entry, an extent and a listing's totals.
 use crate::word::put_name;
 use crate::word::put_number;
 use crate::word::put_three;
@@ -15,7 +15,7 @@ ghost use Rattle.utf8.specs.Text.{lossy};
 ghost use Rattle.text.specs.Output.{outputOf, puts};
 ghost use Rattle.text.specs.Words.{digits, words};
 ghost use Rattle.lines.specs.Shown.{entryShown};
-ghost use Rattle.lines.specs.Lines.{bit, volumeLine, entryLine, extentLine};
+ghost use Rattle.lines.specs.Lines.{bit, volumeLine, entryLine, extentLine, totalLine};
 
 fn bit_of(b: bool) -> u64
     ensures { λ r. ⌜ r ≡ bit b ⌝ }
@@ -77,5 +77,20 @@ pub fn put_extent_line(out: &mut [u8], room: usize, p: Position, e: Extent) -> P
 {
     let a = put_all(out, room, p, b"(extent");
     let b = put_three(out, room, a, e.logical, e.len, e.phys_block);
+    put_all(out, room, b, b")\n")
+}
+
+pub fn put_total_line(
+    out: &mut [u8],
+    room: usize,
+    p: Position,
+    nodes: u64,
+    bytes: u64,
+    attrs: u64,
+) -> Position
+    ensures { λ r. ⌜ outputOf r (now (out .exit)) ≡ puts room (totalLine nodes bytes attrs []) (outputOf p (now (out .entry))) ⌝ }
+{
+    let a = put_all(out, room, p, b"(total");
+    let b = put_three(out, room, a, nodes, bytes, attrs);
     put_all(out, room, b, b")\n")
 }

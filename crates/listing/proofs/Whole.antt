@@ -5,7 +5,8 @@ use mathlib.Core.List.{List, [], _++_}
 use mathlib.Core.Logic.{_⊎_, inl, inr}
 use native.Mathlib.Omega.{arith}
 use borrow.Author.Needs.{needs}
-use lib.ListN.{length, drop, replicate}
+use lib.ListN.{length, take, drop, replicate, length-append}
+use lib.Seq.{length-take-le, take-append-seam}
 use Rattle.error.specs.Answer.{Answer, got, no, _>>=_}
 use Rattle.error.specs.declared.Refusal.{Refusal}
 use Rattle.error.specs.declared.Refusal.the-variants.{BufferTooShort}
@@ -15,6 +16,7 @@ use Rattle.text.specs.Output.{Output, at, refused, outputOf, puts}
 use Rattle.text.specs.declared.Position.{Position}
 use Rattle.text.specs.declared.Position.the-variants.{At, No}
 use Rattle.text.specs.Words.{ascii}
+use Rattle.text.proofs.Writing.{then}
 use Rattle.text.proofs.Whole.{whole, whole-written}
 use Rattle.lookup.specs.Counted.{Counted}
 use Rattle.volume.specs.Open.{openTold, volumeOfImage}
@@ -26,23 +28,18 @@ use Rattle.label.specs.Label.{labelOf}
 use Rattle.volume.specs.Rule.{ruleOf}
 use Rattle.volume.specs.declared.rule.NameRule.{NameRule}
 use Rattle.extents.proofs.Verdicts.{le-or-gt}
-use Rattle.lines.specs.Lines.{volumeLine, close}
+use Rattle.lines.specs.Lines.{volumeLine, totalLine, close}
+use Rattle.lines.proofs.After.{total-append}
+use Rattle.totals.specs.declared.Totals.{Totals}
+use Rattle.totals.specs.Totals.{totalsOf}
 use Rattle.calls.specs.Filled.{Filled, filledAt}
-use Rattle.demand.specs.Trace.{End, done, stop, Trace, says, within}
-use Rattle.demand.specs.Listing.{levels, nodeForm, trace, listing}
+use Rattle.demand.specs.Trace.{End, done, stop, Trace, says, _then_, textOr, within}
+use Rattle.demand.specs.Listing.{levels, nodeForm, footLines, footed, trace, listing}
 use Rattle.demand.specs.Demand.{viewOf, viewOfPart, labelShown, listingOfPart}
 use Rattle.forms.specs.Inner.{ending, run}
-use Rattle.forms.proofs.Running.{run-says, run-then}
+use Rattle.forms.proofs.Running.{run-says, run-refused, run-then}
 use Rattle.listing.specs.Listed.{listedOf}
-
-pub listing-whole : (room : ℕ) (b : List ℕ) (v : Volume) (o p x z : Output) (k : NameRule) (l : List ℕ) (n : ℕ) → k ≡ ruleOf v → l ≡ labelOf b v → n ≡ levels
-    → p ≡ puts room (volumeLine (k .«case_insensitive») (k .«normalization_insensitive») (lossy l) []) o → x ≡ run room (nodeForm (viewOf b v) n 2) p → z ≡ puts room (ascii ")\n" []) x → z ≡ run room (trace (viewOf b v)) o
-unfolding trace labelShown close
-listing-whole room b v o p x z k l n e f m g h j =
-    let line : p ≡ puts room (volumeLine (ruleOf v .«case_insensitive») (ruleOf v .«normalization_insensitive») (lossy (labelOf b v)) []) o = rw (e, f) at g in
-    let root : x ≡ run room (nodeForm (viewOf b v) levels 2) p = rw m at h in
-    run-says room (close []) x z j ∙ ap (run room (says (close []))) (root ∙ ap (run room (nodeForm (viewOf b v) levels 2)) (run-says room _ o p line))
-    ∙ sym (run-then room _ _ o ∙ run-then room _ _ _)
+use Rattle.listing.specs.Inner.{Inside, footAfter}
 
 pub zeroed : (w : Refusal) (b c : List ℕ) → c ≡ replicate (length b) 0 → filledAt (No w) c ≡ listedOf (no w) b
 zeroed w b c h = ap (λ (x : List ℕ). filledAt (No w) x) h
@@ -53,17 +50,18 @@ module _ (t : Trace) (out : List ℕ) where
   run-whole = ap (ending (t .ended)) (whole-written (t .text) out)
 
   module _ (p : Position) (l : List ℕ) (h : outputOf p l ≡ run (length out) t (at out 0)) where
-    pub listed-got : (n : ℕ) → p ≡ At n → filledAt (At n) l ≡ listedOf (within (length out) t) out
-    unfolding within whole
-    listed-got n q = of (le-or-gt (length (t .text)) (length out)) (t .ended) (ap (λ (x : Position). outputOf x l) (sym q) ∙ h ∙ run-whole)
+    -- a position that is not refused stands behind the whole text
+    placed : (n : ℕ) → p ≡ At n → (t .ended ≡ done) × ((n ≡ length (t .text)) × ((n ≤ length out) × (l ≡ t .text ++ drop n out)))
+    unfolding whole
+    placed n q = of (le-or-gt (length (t .text)) (length out)) (t .ended) (ap (λ (x : Position). outputOf x l) (sym q) ∙ h ∙ run-whole)
       where
         of : (length (t .text) ≤ length out) ⊎ (length out < length (t .text)) → (e : End) → at l n ≡ ending e (whole (t .text) out)
-            → filledAt (At n) l ≡ listedOf (within (length out) (record { text = t .text; ended = e })) out
+            → (e ≡ done) × ((n ≡ length (t .text)) × ((n ≤ length out) × (l ≡ t .text ++ drop n out)))
         of (inl k) done w =
             let a : at l n ≡ at (t .text ++ drop (length (t .text)) out) (length (t .text)) = w ∙ sym (at-most _ _ _ _ _ k refl) in
             let m : n ≡ length (t .text) = cc in
             let c : l ≡ t .text ++ drop (length (t .text)) out = cc in
-            rw (m, c) (ap (λ (x : Answer (List ℕ)). listedOf x out) (at-most _ _ _ _ _ k refl))
+            (refl, (m, (rw m k, rw m c)))
         of (inl k) (stop e) w =
             let a : at l n ≡ refused e = w ∙ ap (ending (stop e)) (sym (at-most _ _ _ _ _ k refl)) in
             absurd (let z : _≡_ {A = ℕ} 0 1 = cc in omega arith)
@@ -73,6 +71,33 @@ module _ (t : Trace) (out : List ℕ) where
         of (inr k) (stop e) w =
             let a : at l n ≡ refused BufferTooShort = w ∙ ap (ending (stop e)) (sym (above _ _ _ _ _ k refl)) in
             absurd (let z : _≡_ {A = ℕ} 0 1 = cc in omega arith)
+
+    pub placed-inside : Inside p l
+    placed-inside = of p refl
+      where
+        of : (x : Position) → p ≡ x → Inside x l
+        of (At n) q = let s = placed n q in omega (arith, s .1 .0, ap length (s .1 .1 .1), length-append (t .text) (drop n out))
+        of (No e) q = tt
+
+    placed-text : (n : ℕ) → p ≡ At n → take n l ≡ t .text
+    placed-text n q = let s = placed n q in rw (s .1 .1 .1, s .1 .0) (take-append-seam (t .text) _)
+
+    pub listed-got : (n : ℕ) → p ≡ At n → filledAt (At n) l ≡ listedOf (within (length out) t) out
+    unfolding within
+    listed-got n q =
+        let s = placed n q in
+        let k : length (t .text) ≤ length out = rw (← s .1 .0) (s .1 .1 .0) in
+        let a : within (length out) t ≡ got (t .text) = sym (at-most _ _ _ _ _ k refl) ∙ ap (textOr (t .text)) (s .0) in
+        rw (a, ← s .1 .0) (ap (λ (x : List ℕ). record { answer = got n; buffer = x }) (s .1 .1 .1))
+
+    -- the text with its foot
+    pub foot-run : (z : Output) → z ≡ footAfter (length out) (outputOf p l) → z ≡ run (length out) (footed t) (at out 0)
+    unfolding footed footAfter
+    foot-run z g = g ∙ of p refl ∙ ap (run (length out) (says (footLines (totalsOf (t .text))))) h ∙ sym (run-then (length out) t _ (at out 0))
+      where
+        of : (x : Position) → p ≡ x → footAfter (length out) (outputOf x l) ≡ run (length out) (says (footLines (totalsOf (t .text)))) (outputOf x l)
+        of (At n) q = ap (λ (y : List ℕ). puts (length out) (footLines (totalsOf y)) (at l n)) (placed-text n q) ∙ run-says (length out) _ (at l n) _ refl
+        of (No e) q = sym (run-refused (length out) _ e)
 
     pub listed-no : (w : Refusal) (z : Filled) → p ≡ No w → length l ≡ length out → z ≡ listedOf (no w) l → z ≡ listedOf (within (length out) t) out
     unfolding within whole
@@ -99,6 +124,46 @@ module _ (t : Trace) (out : List ℕ) where
             let m : w ≡ BufferTooShort = cc in
             rw m (ap (λ (x : Answer (List ℕ)). listedOf x out) (above _ _ _ _ _ k refl))
 
+-- the volume's line, the root, and the foot
+module _ (out b : List ℕ) (v : Volume) (o : Output) (k : NameRule) (l : List ℕ) (n : ℕ) (e : k ≡ ruleOf v) (f : l ≡ labelOf b v) (m : n ≡ levels)
+    (g : o ≡ puts (length out) (volumeLine (k .«case_insensitive») (k .«normalization_insensitive») (lossy l) []) (at out 0))
+    (p : Position) (c : List ℕ) (h : outputOf p c ≡ run (length out) (nodeForm (viewOf b v) n 2) o) where
+  abbrev above-foot : Trace
+  above-foot = says (volumeLine (ruleOf v .«case_insensitive») (ruleOf v .«normalization_insensitive») (labelShown b v) []) then nodeForm (viewOf b v) levels 2
+
+  body-run : outputOf p c ≡ run (length out) above-foot (at out 0)
+  unfolding labelShown
+  body-run =
+      let line : o ≡ puts (length out) (volumeLine (ruleOf v .«case_insensitive») (ruleOf v .«normalization_insensitive») (lossy (labelOf b v)) []) (at out 0) = rw (e, f) at g in
+      let root : outputOf p c ≡ run (length out) (nodeForm (viewOf b v) levels 2) o = rw m at h in
+      root ∙ ap (run (length out) (nodeForm (viewOf b v) levels 2)) (run-says (length out) _ (at out 0) o line) ∙ sym (run-then (length out) _ _ (at out 0))
+
+  pub foot-inside : Inside p c
+  foot-inside = placed-inside above-foot out p c body-run
+
+  pub listing-whole : (z : Output) → z ≡ footAfter (length out) (outputOf p c) → z ≡ run (length out) (trace (viewOf b v)) (at out 0)
+  unfolding trace
+  listing-whole = foot-run above-foot out p c body-run
+
+pub inside-at : (p : Position) (b : List ℕ) (n : ℕ) → Inside p b → p ≡ At n → n ≤ length b
+inside-at p b n h q = rw q at h
+
+pub front-length : (p : Position) (b : List ℕ) (n : ℕ) → Inside p b → p ≡ At n → length (take n b) ≡ n
+front-length p b n h q = length-take-le n b (inside-at p b n h q)
+
+-- what the foot writes
+module _ (room : ℕ) (p : Position) (b : List ℕ) where
+  pub foot-refused : (e : Refusal) → p ≡ No e → refused e ≡ footAfter room (outputOf p b)
+  unfolding footAfter
+  foot-refused e q = rw q
+
+  pub foot-written : (n : ℕ) (t : Totals) (x z : Output) → p ≡ At n → t ≡ totalsOf (take n b) → x ≡ puts room (totalLine (t .nodes) (t .bytes) (t .attrs) []) (at b n)
+      → z ≡ puts room (ascii ")\n" []) x → z ≡ footAfter room (outputOf p b)
+  unfolding footAfter close
+  foot-written n t x z q e g k =
+      let s : z ≡ puts room (footLines t) (at b n) = (then) room (at b n) x z _ (close []) (footLines t) (total-append (t .nodes) (t .bytes) (t .attrs) (close [])) g k in
+      rw q (s ∙ ap (λ (u : Totals). puts room (footLines u) (at b n)) e)
+
 module _ (image : List ℕ) (index : Which) (n : ℕ) (out : List ℕ) (r : VolumeOpened) (p : openTold r ≡ volumeOfImage image index) where
   -- the listing, by what opening answered
   abbrev by : Answer Volume → Answer (List ℕ)
@@ -114,4 +179,4 @@ module _ (image : List ℕ) (index : Which) (n : ℕ) (out : List ℕ) (r : Volu
   pub list-refused : (w : Refusal) (z : Filled) → r .volume ≡ VolumeOpening.No w → z ≡ listedOf (no w) out → z ≡ listedOf (listingOfPart image index n) out
   list-refused w z q h = h ∙ opened (VolumeOpening.No w) q
 
-pub ruleset all = (needs, listing-whole, zeroed, listed-got, listed-no, list-opened, list-refused)
+pub ruleset all = (needs, foot-refused, foot-written, foot-inside, inside-at, front-length, listing-whole, zeroed, listed-got, listed-no, list-opened, list-refused)

@@ -1,10 +1,27 @@
--- What the entry writer writes. It needs no belief: a list of entries so written is demand's `entryForms` (`one-more`, proofs/Laws.antt).
-use Prim.Native.Nat.{ℕ}
-use mathlib.Core.List.{[]}
+-- What the entry writer writes, and the writer of the foot. It needs no belief: a list of entries so written is demand's `entryForms` (`one-more`,
+-- proofs/Laws.antt), and a text from the start of a buffer with its foot is demand's `footed` (`foot-run`, proofs/Whole.antt).
+use Prim.Native.Nat.{ℕ, _≤_}
+use mathlib.Core.List.{List, []}
+use lib.ListN.{length, take}
+use Rattle.text.specs.Output.{Output, at, refused, puts}
+use Rattle.text.specs.declared.Position.{Position}
+use Rattle.text.specs.declared.Position.the-variants.{At, No}
+use Rattle.totals.specs.Totals.{totalsOf}
 use Rattle.lines.specs.Shown.{EntryShown}
 use Rattle.lines.specs.Lines.{entryLine, close}
 use Rattle.demand.specs.Trace.{Trace, says, _then_}
+use Rattle.demand.specs.Listing.{footLines}
 
 -- "`(entry ID DATE KIND NAME`, the node of that ID, `)`"
 unfoldable pub entryForm : (ℕ → Trace) → EntryShown → Trace
 entryForm form e = says (entryLine e []) then form (e .id) then says (close [])
+
+-- a position in the buffer or at its end
+abbrev pub Inside : Position → List ℕ → Type 0
+Inside (At n) b = n ≤ length b
+Inside (No e) b = Unit
+
+-- the totals of the text that stands before the position, and the last bracket
+unfoldable pub footAfter : ℕ → Output → Output
+footAfter room (at b n) = puts room (footLines (totalsOf (take n b))) (at b n)
+footAfter room (refused e) = refused e

@@ -3,11 +3,13 @@ use crate::writers::put_node;
 use demand::levels;
 use error::Refusal;
 use label::label_of;
+use lines::put_total_line;
 use lines::put_volume_line;
 use lists::ROOT;
 use text::Position;
 use text::clear;
 use text::put_all;
+use totals::totals_in;
 use volume::Volume;
 use volume::VolumeOpening;
 use volume::Which;
@@ -22,6 +24,22 @@ ghost use Rattle.demand.specs.Listing.{trace, listing};
 ghost use Rattle.demand.specs.Demand.{viewOf, listingOfPart};
 ghost use Rattle.forms.specs.Inner.{run};
 ghost use Rattle.listing.specs.Listed.{listedOf};
+ghost use Rattle.listing.specs.Inner.{Inside, footAfter};
+
+// The totals of the text up to the position, and the last bracket.
+fn put_foot(out: &mut [u8], room: usize, p: Position) -> Position
+    requires { ⌜ Inside p (now out) ⌝ }
+    ensures { λ r. ⌜ outputOf r (now (out .exit)) ≡ footAfter room (outputOf p (now (out .entry))) ⌝ }
+{
+    match p {
+        Position::No(e) => Position::No(e),
+        Position::At(n) => {
+            let t = totals_in(&out[..n]);
+            let q = put_total_line(out, room, p, t.nodes, t.bytes, t.attrs);
+            put_all(out, room, q, b")\n")
+        }
+    }
+}
 
 fn put_listing(out: &mut [u8], image: &[u8], v: Volume) -> Position
     ensures { λ r. ⌜ outputOf r (now (out .exit)) ≡ run (length (now (out .entry))) (trace (viewOf (now (image .entry)) v)) (at (now (out .entry)) 0) ⌝ }
@@ -38,7 +56,7 @@ fn put_listing(out: &mut [u8], image: &[u8], v: Volume) -> Position
         label,
     );
     let b = put_node(out, room, a, image, v, ROOT, levels());
-    put_all(out, room, b, b")\n")
+    put_foot(out, room, b)
 }
 
 // A refused listing leaves its buffer all zeros.

@@ -12,7 +12,6 @@ put-listing-spec =
     (λ c κs. search needs)
     (λ c κs. search needs)
     (λ c κs. search needs)
-    (λ c. search needs)
-    (λ c κs. search needs)
+    (λ c κs. search all)
     (λ c. search needs)
     (λ c. search all))
