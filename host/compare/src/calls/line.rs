@@ -50,6 +50,11 @@ pub fn attribute(x: &Xattr, data: &[u8]) -> String {
     format!("(attr {} {} {form} {})\n", x.flags, hex(x.name.as_bytes()), hex(data))
 }
 
+/// Request 08: node forms, bytes shown in data forms, and attribute forms.
+pub fn total(nodes: u64, bytes: u64, attributes: u64) -> String {
+    format!("(total {nodes} {bytes} {attributes})\n")
+}
+
 pub fn extent(e: &Extent) -> String {
     format!("(extent {} {} {})\n", e.logical, e.len, e.phys_block)
 }

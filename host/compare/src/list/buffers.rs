@@ -1,7 +1,8 @@
-//! Lengths of buffers, about the ends of the text and of one of its lines.
+//! Lengths of buffers, about the ends of the text, of its foot's two lines and of one of the others.
 
 use sticks::random::Random;
 
+use crate::list::totals;
 use crate::list::trace::{End, Trace};
 
 /// Of a listing that takes longer, fewer lengths are tried.
@@ -19,12 +20,22 @@ pub fn lengths(t: &Trace, r: &mut Random) -> Vec<usize> {
     } else {
         [&[0, 1], &fits[..], &short[..]].concat()
     };
-    if t.end == End::More {
-        all.retain(|&k| k < n);
+    match t.end {
+        End::More => all.retain(|&k| k < n),
+        End::Whole => all.extend(foot(&t.text, r)),
+        _ => {}
     }
     all.sort();
     all.dedup();
     all
+}
+
+/// Of a whole listing: up to the totals, into them, up to the last bracket, into it, and all.
+fn foot(text: &[u8], r: &mut Random) -> Vec<usize> {
+    let n = text.len();
+    let Some(start) = totals::start(text) else { return Vec::new() };
+    let bracket = n - 2;
+    vec![start, start + 1, start + 1 + r.place(bracket - start - 1), bracket - 1, bracket, n - 1, n]
 }
 
 /// The place after some line of the text.

@@ -7,6 +7,7 @@ pub mod edges;
 pub mod file;
 pub mod run;
 pub mod tally;
+pub mod totals;
 pub mod trace;
 pub mod walk;
 

@@ -12,7 +12,7 @@ use crate::list::buffers::lengths;
 use crate::list::check::{Mismatch, Subject};
 use crate::list::tally::Tally;
 use crate::list::trace::{End, Trace};
-use crate::list::{edges, walk, Port};
+use crate::list::{edges, totals, walk, Port};
 use crate::opening::answer;
 use crate::opening::run::stick_seed;
 use crate::opening::shrink::shrink;
@@ -143,6 +143,10 @@ impl Trial<'_> {
         if let (None, End::Panic(m)) = (self.port, &t.end) {
             let words = format!("the oracle panicked: {m}");
             return Err((volume, Mismatch { length: 0, want: 0, got: 0, words }));
+        }
+        if t.end == End::Whole {
+            let told = |words: String| (volume, Mismatch { length: t.text.len(), want: 0, got: 0, words });
+            self.tally.totals(totals::held(&t.text).map_err(told)?);
         }
         for n in lengths(&t, &mut self.random) {
             if !matches!(t.end, End::Open(_)) {

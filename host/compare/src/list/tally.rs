@@ -4,6 +4,7 @@ use std::collections::BTreeMap;
 use std::fmt;
 
 use crate::calls::directory::Account;
+use crate::list::totals::Totals;
 use crate::list::trace::{End, Trace};
 
 #[derive(Clone, Debug, Default)]
@@ -26,6 +27,8 @@ pub struct Tally {
     pub depths: BTreeMap<u64, u64>,
     /// The depth of the deepest whole listing.
     pub deepest: u64,
+    /// Nodes, bytes and attributes of whole listings, as counted over their lines, and the most of each in one.
+    pub totals: [(u64, u64); 3],
     /// Listings by whose account of directory keys, and whether they are whole.
     pub accounts: BTreeMap<(Account, bool), u64>,
 }
@@ -61,6 +64,13 @@ impl Tally {
             *self.sizes.entry(t.text.len().ilog2()).or_default() += 1;
             self.longest = self.longest.max(t.text.len());
             self.deepest = self.deepest.max(t.depth.unwrap_or(0));
+        }
+    }
+
+    pub fn totals(&mut self, totals: Totals) {
+        for ((all, most), n) in self.totals.iter_mut().zip(totals) {
+            *all += n;
+            *most = n.max(*most);
         }
     }
 
@@ -101,6 +111,8 @@ impl fmt::Display for Tally {
             self.longest,
             self.bytes
         )?;
+        let [nodes, bytes, attributes] = self.totals.map(|(all, most)| format!("{all}, at most {most}"));
+        writeln!(f, "totals of whole listings: nodes {nodes}; bytes {bytes}; attributes {attributes}")?;
         writeln!(f, "listings by depth: {}; deepest whole one {}", pairs(&self.depths), self.deepest)
     }
 }

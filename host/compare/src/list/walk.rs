@@ -88,10 +88,19 @@ pub fn with_room(part: &[u8], c: &Container, volume: u64, room: usize, rule: Rul
         Err(a) => return Trace::only(stopped(a, true)),
     };
     let dirs = Directories::of(&v, rule);
-    let mut walk = Walk { part, c, v: &v, dirs: &dirs, room, text: Vec::new(), depth: None, weight: 0 };
+    let shown = Shown::default();
+    let mut walk = Walk { part, c, v: &v, dirs: &dirs, room, text: Vec::new(), depth: None, weight: 0, shown };
     let walked = caught(|| walk.volume());
     let end = walked.map_or_else(|a| stopped(a, true), End::from);
     Trace { text: walk.text, depth: walk.depth, weight: walk.weight, account: dirs.account(), end }
+}
+
+/// What the lines so far show.
+#[derive(Default)]
+struct Shown {
+    nodes: u64,
+    bytes: u64,
+    attributes: u64,
 }
 
 struct Walk<'w> {
@@ -103,6 +112,7 @@ struct Walk<'w> {
     text: Vec<u8>,
     depth: Option<u64>,
     weight: u64,
+    shown: Shown,
 }
 
 impl Walk<'_> {
@@ -119,6 +129,8 @@ impl Walk<'_> {
         let (case, norm) = (u8::from(rule.case_insensitive), u8::from(rule.normalization_insensitive));
         self.line(&format!("(volume {case} {norm} {}\n", line::hex(self.v.sb.name.as_bytes())))?;
         self.node(ROOT, 0)?;
+        let Shown { nodes, bytes, attributes } = self.shown;
+        self.line(&line::total(nodes, bytes, attributes))?;
         self.line(")\n")
     }
 
@@ -128,6 +140,7 @@ impl Walk<'_> {
         }
         let inode = if depth == 0 { self.v.root() } else { self.v.inode(id) }?;
         self.line(&line::node(&inode))?;
+        self.shown.nodes += 1;
         self.depth = self.depth.max(Some(depth));
         self.weight += u64::from(self.c.block_size());
         let attributes = self.v.xattrs(id)?;
@@ -137,6 +150,7 @@ impl Walk<'_> {
                 stream::Data::Whole(data) => self.line(&line::attribute(x, &data))?,
                 stream::Data::Long(_) => return Err(Halt::LongLine),
             }
+            self.shown.attributes += 1;
         }
         self.contents(&inode)?;
         for e in &entries {
@@ -151,9 +165,8 @@ impl Walk<'_> {
         if inode.is_compressed() {
             return self.line("(packed)\n");
         }
-        match file::contents(self.part, self.c, self.v, inode)? {
-            Some(bytes) => self.line(&format!("(data {})\n", line::hex(&bytes))),
-            None => Err(Halt::LongLine),
-        }
+        let bytes = file::contents(self.part, self.c, self.v, inode)?.ok_or(Halt::LongLine)?;
+        self.shown.bytes += bytes.len() as u64;
+        self.line(&format!("(data {})\n", line::hex(&bytes)))
     }
 }

@@ -17,7 +17,8 @@ pub fn listing(c: &Contents, room: usize) -> Result<Vec<u8>, u64> {
     let mut planned = Planned { c, room, text: Vec::new() };
     let (case, norm) = (u8::from(c.case_insensitive), u8::from(c.normalization_insensitive));
     planned.line(&format!("(volume {case} {norm} {}\n", line::hex(contents::text(&c.label).as_bytes())))?;
-    planned.node(ROOT, 0)?;
+    let [nodes, bytes, attributes] = planned.node(ROOT, 0)?;
+    planned.line(&line::total(nodes, bytes, attributes))?;
     planned.line(")\n")?;
     Ok(planned.text)
 }
@@ -39,6 +40,9 @@ pub fn reached(c: &Contents) -> Vec<usize> {
     out
 }
 
+/// Nodes, bytes and attributes that a node's form shows, those below it among them.
+type Shown = [u64; 3];
+
 struct Planned<'c> {
     c: &'c Contents,
     room: usize,
@@ -54,7 +58,7 @@ impl Planned<'_> {
         Ok(())
     }
 
-    fn node(&mut self, id: u64, depth: u64) -> Result<(), u64> {
+    fn node(&mut self, id: u64, depth: u64) -> Result<Shown, u64> {
         if depth > DEEPEST {
             return Err(TOO_DEEP);
         }
@@ -64,12 +68,15 @@ impl Planned<'_> {
             self.line(&self.attribute(a))?;
         }
         self.line(&self.data(f))?;
+        let mut shown = [1, size(f), f.attributes.len() as u64];
         for e in &f.entries {
             self.line(&line::entry(&entry(e)))?;
-            self.node(e.id, depth + 1)?;
+            let below = self.node(e.id, depth + 1)?;
+            shown.iter_mut().zip(below).for_each(|(n, more)| *n += more);
             self.line(")\n")?;
         }
-        self.line(")\n")
+        self.line(")\n")?;
+        Ok(shown)
     }
 
     fn attribute(&self, a: &Attribute) -> String {
@@ -84,9 +91,16 @@ impl Planned<'_> {
         if f.inode.is_compressed() {
             return "(packed)\n".into();
         }
-        let size = f.inode.stream().map_or(0, |s| s.0);
-        format!("(data {})\n", line::hex(&self.c.bytes(f.inode.private, size)))
+        format!("(data {})\n", line::hex(&self.c.bytes(f.inode.private, size(f))))
     }
+}
+
+/// How many bytes are shown of a file's data.
+fn size(f: &File) -> u64 {
+    if f.inode.is_compressed() {
+        return 0;
+    }
+    f.inode.stream().map_or(0, |s| s.0)
 }
 
 fn inode(f: &File) -> Inode {

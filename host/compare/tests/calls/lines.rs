@@ -3,7 +3,7 @@
 use compare::calls::call::Call;
 use compare::calls::directory::Account;
 use compare::calls::expected::{Answer, Expected, Kind};
-use compare::calls::line::{attribute, entry, extent, hex, kind, node};
+use compare::calls::line::{attribute, entry, extent, hex, kind, node, total};
 use compare::calls::tally::Tally;
 use oracle::fs::{DirEntry, Dstream, Extent, FileKind, Inode, Xattr, XattrData};
 
@@ -56,6 +56,8 @@ fn entries_attributes_and_extents() {
     let e = Extent { logical: 1, len: 2, phys_block: 0 };
     assert_eq!(extent(&e), "(extent 1 2 0)\n");
     assert_eq!(hex(b"\x0f\xf0"), "x0ff0");
+    assert_eq!(total(1, 0, 0), "(total 1 0 0)\n");
+    assert_eq!(total(10, u64::MAX, 305), "(total 10 18446744073709551615 305)\n");
 }
 
 #[test]

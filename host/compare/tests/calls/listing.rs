@@ -68,7 +68,7 @@ fn example() -> Arc<Vec<u8>> {
     Arc::new(make(Plan::with_contents(contents, 3)).image)
 }
 
-const EXAMPLE: &str = "(volume 1 0 x41\n(node 2 1 2 0 0 0 0 0 0 0 0 0 16877 - -\n(data x)\n)\n)\n";
+const EXAMPLE: &str = "(volume 1 0 x41\n(node 2 1 2 0 0 0 0 0 0 0 0 0 16877 - -\n(data x)\n)\n(total 1 0 0)\n)\n";
 
 #[test]
 fn document_01_gives_an_example() {

@@ -10,6 +10,7 @@ mod numbers;
 mod recorded;
 mod stand;
 mod streams;
+mod totals;
 mod vast;
 
 use compare::calls::run::Run;

@@ -46,7 +46,7 @@ fn entered(name: &[u8]) -> String {
 fn one(kind: Kind, key: Key, stored: &[u8], name: Option<&[u8]>) -> (Vec<u8>, Vec<Stated>) {
     let head = format!("(volume {} {} x41\n{ROOT_LINE}(data x)\n", u8::from(kind.0), u8::from(kind.1));
     let said = |text: &dyn Fn(&[u8]) -> String| name.map_or(Refused(2), |name| Text(text(name)));
-    let listed = |name: &[u8]| format!("{head}{}{NODE}(data x)\n)\n)\n)\n)\n", entered(name));
+    let listed = |name: &[u8]| format!("{head}{}{NODE}(data x)\n)\n)\n)\n(total 2 0 0)\n)\n", entered(name));
     let mut cases = vec![
         at(0, said(&entered)),
         at(1, said(&|_| String::new())),

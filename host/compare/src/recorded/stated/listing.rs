@@ -16,9 +16,9 @@ fn listed(c: Contents, said: Said) -> (Vec<u8>, Vec<Stated>) {
     (image(c), vec![Stated::list(ROOM, said)])
 }
 
-/// Document 01's example.
+/// Document 01's example, with request 08's line.
 fn example() -> String {
-    format!("(volume 1 0 x41\n{ROOT_LINE}(data x)\n)\n)\n")
+    format!("(volume 1 0 x41\n{ROOT_LINE}(data x)\n)\n(total 1 0 0)\n)\n")
 }
 
 fn node(id: u64) -> String {
@@ -40,7 +40,8 @@ fn chain_text(depth: u64) -> String {
     for i in 1..=depth {
         text += &format!("(entry {0} 3 8 x6e\n{1}(data x)\n", 15 + i, node(15 + i));
     }
-    text + &")\n".repeat(2 * depth as usize + 2)
+    text += &")\n".repeat(2 * depth as usize + 1);
+    text + &format!("(total {} 0 0)\n)\n", depth + 1)
 }
 
 pub fn groups() -> Vec<Group> {
@@ -57,8 +58,8 @@ fn texts() -> Group {
     let least = "(node 21 2 21 0 0 0 0 0 -2147483648 0 0 0 16877 - -\n(data x)\n";
     let attributes = "(attr 2 x6e e x76)\n(attr 1 x73 s 300 x7879)\n";
     let entries = format!("(entry 20 3 8 x62\n{packed})\n)\n(entry 21 3 8 x61\n{least})\n)\n");
-    let text = format!("(volume 1 0 x41\n{ROOT_LINE}{attributes}(data x)\n{entries})\n)\n");
-    let data = "(node 100 2 100 0 0 0 0 0 0 0 0 0 16877 - 4,9000\n(data x00016100)\n)\n)\n)\n)\n";
+    let text = format!("(volume 1 0 x41\n{ROOT_LINE}{attributes}(data x)\n{entries})\n(total 3 0 2)\n)\n");
+    let data = "(node 100 2 100 0 0 0 0 0 0 0 0 0 16877 - 4,9000\n(data x00016100)\n)\n)\n)\n(total 2 4 0)\n)\n";
     let file = format!("(volume 1 0 x41\n{ROOT_LINE}(data x)\n(entry 100 3 8 x64617461\n{data}");
     // No directory, and yet its entries are read.
     let mut plain = chain(1);
@@ -77,7 +78,7 @@ fn names() -> Group {
     let one = |label: &[u8], case: bool, norm: bool, line: &str| {
         let mut c = contents(vec![file(ROOT)]);
         (c.label, c.case_insensitive, c.normalization_insensitive) = (label.to_vec(), case, norm);
-        listed(c, Text(format!("(volume {line}\n{ROOT_LINE}(data x)\n)\n)\n")))
+        listed(c, Text(format!("(volume {line}\n{ROOT_LINE}(data x)\n)\n(total 1 0 0)\n)\n")))
     };
     let cases = vec![
         one(b"", false, false, "0 0 x"),

@@ -1,5 +1,5 @@
-//! Document 01's cases and those of partition tables, patched names, directory keys, checkpoints and wrong words, each with what the
-//! papers say of it, and small sticks that show them.
+//! Document 01's cases and those of partition tables, patched names, directory keys, checkpoints, wrong words and a
+//! listing's totals, each with what the papers say of it, and small sticks that show them.
 
 mod checkpoints;
 mod keys;
@@ -11,6 +11,7 @@ mod reads;
 mod records;
 mod stick;
 mod tables;
+mod totals;
 mod trees;
 mod volumes;
 mod words;
@@ -142,6 +143,11 @@ pub fn of_checkpoints() -> Vec<Group> {
 /// Those of request 13.
 pub fn of_words() -> Vec<Group> {
     words::groups()
+}
+
+/// Those of request 08.
+pub fn of_totals() -> Vec<Group> {
+    totals::groups()
 }
 
 /// An error tells each case that the oracle answers otherwise.

@@ -102,7 +102,7 @@ fn example() -> Group {
     let node = "(node 100 2 100 0 0 0 0 0 0 0 0 0 16877 - -\n";
     let entered = "(entry 100 3 8 x65efbfbd\n";
     let head = "(volume 1 0 x6cefbfbd\n(node 2 1 2 0 0 0 0 0 0 0 0 0 16877 x72efbfbd -\n(attr 2 x61efbfbd e x76)\n";
-    let listed = format!("{head}(data x)\n{entered}{node}(data x)\n)\n)\n)\n)\n");
+    let listed = format!("{head}(data x)\n{entered}{node}(data x)\n)\n)\n)\n(total 2 0 1)\n)\n");
     let one = |mark: &[u8], n: u64| {
         let with = |start: &str| [start.as_bytes(), mark].concat();
         let mut c = root(|f| {

@@ -33,7 +33,7 @@ fn backup(image: &[u8]) -> usize {
 /// The container's line, the root's and the listing.
 fn found() -> Vec<Stated> {
     let line = format!("(container 4096 {} 100000 1026)\n", empty().len() / BLOCK);
-    let list = format!("(volume 1 0 x41\n{ROOT_LINE}(data x)\n)\n)\n");
+    let list = format!("(volume 1 0 x41\n{ROOT_LINE}(data x)\n)\n(total 1 0 0)\n)\n");
     vec![
         Stated::open(Text(line)),
         Stated::lookup("", Text(ROOT_LINE.into())),

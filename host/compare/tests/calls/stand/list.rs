@@ -6,6 +6,7 @@ use oracle::probe;
 use super::files::LONGEST;
 use super::mistake::Mistake;
 use super::records::{Attribute, Data, Entry, Extent, Inode};
+use super::totals::{self, Form};
 use super::{class, open, test, Answer, Opened, Stand};
 
 #[derive(Clone, Copy, Debug, PartialEq, Eq)]
@@ -30,6 +31,25 @@ pub enum Slip {
     DirectoriesAlone,
     RuleSwapped,
     LabelAsStored,
+    // Totals.
+    FirstNodeAlone,
+    RootUncounted,
+    LinkedOnce,
+    PackedUncounted,
+    BytesOnce,
+    BytesOfPacked,
+    BytesAllocated,
+    BytesStored,
+    BytesWithAttributes,
+    BytesAsDigits,
+    EmbeddedAlone,
+    StreamsAlone,
+    TotalsSwapped,
+    TotalsInHex,
+    TotalsAfterBracket,
+    TotalsWhereTheyFit,
+    FootReserved,
+    FootUnwiped,
     // Buffers.
     FullIsShort,
     LeftUnwiped,
@@ -39,7 +59,7 @@ pub enum Slip {
 
 use Slip as S;
 
-pub const ALL: [Slip; 20] = [
+pub const ALL: [Slip; 38] = [
     S::ShortLast,
     S::ShortBeforeContents,
     S::ListsBeforeLine,
@@ -56,26 +76,73 @@ pub const ALL: [Slip; 20] = [
     S::DirectoriesAlone,
     S::RuleSwapped,
     S::LabelAsStored,
+    S::FirstNodeAlone,
+    S::RootUncounted,
+    S::LinkedOnce,
+    S::PackedUncounted,
+    S::BytesOnce,
+    S::BytesOfPacked,
+    S::BytesAllocated,
+    S::BytesStored,
+    S::BytesWithAttributes,
+    S::BytesAsDigits,
+    S::EmbeddedAlone,
+    S::StreamsAlone,
+    S::TotalsSwapped,
+    S::TotalsInHex,
+    S::TotalsAfterBracket,
+    S::TotalsWhereTheyFit,
+    S::FootReserved,
+    S::FootUnwiped,
     S::FullIsShort,
     S::LeftUnwiped,
     S::WipedAfterLines,
     S::WipedPast,
 ];
 
+/// Those that show in a whole listing's foot.
+pub const TOTALS: [Slip; 15] = [
+    S::FirstNodeAlone,
+    S::RootUncounted,
+    S::LinkedOnce,
+    S::PackedUncounted,
+    S::BytesOnce,
+    S::BytesOfPacked,
+    S::BytesAllocated,
+    S::BytesStored,
+    S::BytesWithAttributes,
+    S::BytesAsDigits,
+    S::EmbeddedAlone,
+    S::StreamsAlone,
+    S::TotalsSwapped,
+    S::TotalsInHex,
+    S::TotalsAfterBracket,
+];
+
+/// No foot is shorter.
+const FOOT: usize = "(total 1 0 0)\n)\n".len();
+
 struct Lister<'a> {
     stand: Stand<'a>,
     room: usize,
     text: Vec<u8>,
+    forms: Vec<Form>,
+    at_foot: bool,
     slip: Slip,
 }
 
-impl Lister<'_> {
+impl<'a> Lister<'a> {
+    fn new(stand: Stand<'a>, room: usize, slip: Slip) -> Lister<'a> {
+        Lister { stand, room, text: Vec::new(), forms: Vec::new(), at_foot: false, slip }
+    }
+
     fn has(&self, slip: Slip) -> bool {
         self.slip == slip
     }
 
     fn line(&mut self, line: &str) -> Answer<()> {
-        let n = self.text.len() + line.len() + usize::from(self.has(S::FullIsShort));
+        let reserved = if self.has(S::FootReserved) && !self.at_foot { FOOT } else { 0 };
+        let n = self.text.len() + line.len() + reserved + usize::from(self.has(S::FullIsShort));
         test(n <= self.room || self.has(S::ShortLast) && n < 1 << 24, 6)?;
         self.text.extend(line.bytes());
         Ok(())
@@ -91,8 +158,24 @@ impl Lister<'_> {
         let line = format!("(volume {} {} {}\n", rule[0], rule[1], self.stand.hex(label.as_bytes()));
         self.line(&line)?;
         self.node(2, 0)?;
-        self.line(")\n")?;
+        self.at_foot = true;
+        if self.has(S::TotalsAfterBracket) {
+            self.line(")\n")?;
+            self.totals()?;
+        } else {
+            self.totals()?;
+            self.line(")\n")?;
+        }
         test(self.text.len() <= self.room, 6)
+    }
+
+    fn totals(&mut self) -> Answer<()> {
+        let line = totals::line(&self.forms, self.slip);
+        let fits = self.text.len() + line.len() <= self.room;
+        if fits || !self.has(S::TotalsWhereTheyFit) {
+            self.line(&line)?;
+        }
+        Ok(())
     }
 
     fn deepest(&self) -> u64 {
@@ -112,6 +195,7 @@ impl Lister<'_> {
             self.stand.entries(id)?;
         }
         self.line(&self.stand.node(&inode))?;
+        self.forms.push(Form::of(&inode));
         let attributes = self.stand.attributes(id)?;
         if self.has(S::EntriesAfterAttributes) {
             self.attributes(&attributes)?;
@@ -150,6 +234,7 @@ impl Lister<'_> {
             let (data, size) = self.stand.contents(a)?;
             test(size <= LONGEST, 6)?;
             self.line(&(head + &self.stand.hex(&data) + ")\n"))?;
+            self.forms.last_mut().expect("its node").attribute(a, data.len());
         }
         Ok(())
     }
@@ -176,6 +261,7 @@ impl Lister<'_> {
             self.copy(e, size, &mut out)?;
         }
         test(size <= LONGEST, 6)?;
+        self.forms.last_mut().expect("its node").data(&extents, out.len());
         self.line(&format!("(data {})\n", self.stand.hex(&out)))
     }
 
@@ -195,14 +281,14 @@ impl Lister<'_> {
 }
 
 pub fn answer(image: &[u8], volume: u64, out: &mut [u8], slip: Slip) -> i64 {
-    let mut text = Vec::new();
+    let (mut text, mut at_foot) = (Vec::new(), false);
     let found = open(image).and_then(|Opened { part, c }| {
         let listed = caught(|| {
             let v = c.volume(volume as usize).map_err(class)?;
             let stand = Stand { part: &part, c: &c, v: &v, m: Mistake::None };
-            let mut lister = Lister { stand, room: out.len(), text: Vec::new(), slip };
+            let mut lister = Lister::new(stand, out.len(), slip);
             let listed = lister.volume();
-            text = lister.text;
+            (text, at_foot) = (lister.text, lister.at_foot);
             listed
         });
         listed.unwrap_or(Err(8))
@@ -216,7 +302,8 @@ pub fn answer(image: &[u8], volume: u64, out: &mut [u8], slip: Slip) -> i64 {
         }
         Err(number) => {
             let from = if slip == S::WipedAfterLines { n.min(out.len()) } else { 0 };
-            out[from..].iter_mut().filter(|_| slip != S::LeftUnwiped).for_each(|b| *b = 0);
+            let unwiped = slip == S::LeftUnwiped || slip == S::FootUnwiped && at_foot;
+            out[from..].iter_mut().filter(|_| !unwiped).for_each(|b| *b = 0);
             -number
         }
     }

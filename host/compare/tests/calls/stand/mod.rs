@@ -6,6 +6,7 @@ pub mod mistake;
 mod names;
 mod paths;
 mod records;
+mod totals;
 mod tree;
 
 use std::cell::RefCell;
