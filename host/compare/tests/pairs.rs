@@ -72,6 +72,14 @@ fn every_word_that_is_hidden_is_missed() {
     }
 }
 
+/// So that demand 3 is as it was: nothing is told by the totals alone.
+#[test]
+fn hidden_totals_are_not_missed() {
+    let all = |text: &str| (1..=3).fold(text.to_string(), |text, word| hidden(&text, "(total", word));
+    assert!(all("(total 1 0 0)\n)\n").starts_with("(total ? ? ?"));
+    assert_eq!(found(&|_, text| all(text)), None);
+}
+
 #[test]
 fn hidden_order_is_missed() {
     let sorted = |_: &[u8], text: &str| {
@@ -92,12 +100,17 @@ fn a_listing_that_shows_the_layout_is_found() {
     }
 }
 
-/// Document 01 names these: one fixed text, each root alone, the image copied out, and every stick refused.
+/// Document 01 names these: one fixed text, each root alone, the image copied out, and every stick refused. Totals that
+/// are right make none of them better.
 #[test]
 fn listers_that_tell_nothing_are_found() {
     let fixed = found(&|_, _| "(volume 1 0 x41\n".into());
-    let roots = found(&|_, text| text.lines().take_while(|l| !l.starts_with("(entry")).collect());
-    for words in [fixed, roots, refusing().failure.map(|f| f.words)] {
+    let root = |text: &str| text.lines().take_while(|l| !l.starts_with("(entry")).collect::<String>();
+    let totals = |text: &str| text.lines().filter(|l| l.starts_with("(total")).collect::<String>();
+    let roots = found(&|_, text| root(text));
+    let with_totals = found(&|_, text| root(text) + &totals(text));
+    let totals = found(&|_, text| totals(text));
+    for words in [fixed, roots, with_totals, totals, refusing().failure.map(|f| f.words)] {
         assert!(words.as_ref().is_some_and(|w| w.ends_with("the listings are the same")), "{words:?}");
     }
     let copied = found(&|image, _| image.iter().map(|&b| char::from(b % 128)).collect());
