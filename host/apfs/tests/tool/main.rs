@@ -8,6 +8,7 @@ mod errors;
 mod image;
 mod partitioned;
 mod sample;
+mod totals;
 mod words;
 
 use std::io::Read;
@@ -98,12 +99,15 @@ fn a_volume_is_listed_in_a_buffer_that_grows() {
     let (contents, bytes) = file();
     let text = out(Image::holding("list", contents).run(&["list"], &[]));
     let lines: Vec<&str> = text.lines().collect();
-    let [volume, root, empty, entry, node, data, ")", ")", ")", ")"] = lines[..] else { panic!("{}", lines.len()) };
+    let [volume, root, empty, entry, node, data, ")", ")", ")", total, ")"] = lines[..] else {
+        panic!("{}", lines.len())
+    };
     assert_eq!((volume, empty, entry), ("(volume 1 1 x6c61726765", "(data x)", "(entry 100 0 8 x64617461"));
     assert_eq!(root, "(node 2 2 2 0 0 0 0 0 1 0 0 0 16877 - -");
     assert_eq!(node, "(node 100 2 100 0 0 0 0 0 1 0 0 0 33261 - 300000,300000");
     let hex: String = bytes.iter().map(|b| format!("{b:02x}")).collect();
     assert!(data == format!("(data x{hex})"));
+    assert_eq!(total, "(total 2 300000 0)");
 }
 
 #[test]
@@ -111,7 +115,7 @@ fn a_listing_is_refused_in_words() {
     let image = Image::holding("deep", large::chain(65, 1));
     refused(image.run(&["list"], &[]), 10);
     refused(image.run(&["--volume", "1", "list"], &[]), 4);
-    assert_eq!(out(Image::holding("64", large::chain(64, 1)).run(&["list"], &[])).lines().count(), 3 * 65 + 64 * 2 + 2);
+    assert_eq!(out(Image::holding("64", large::chain(64, 1)).run(&["list"], &[])).lines().count(), 3 * 65 + 64 * 2 + 3);
     refused(Image::of("list-empty", b"").run(&["list"], &[]), 1);
 }
 
