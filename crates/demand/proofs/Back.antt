@@ -1,5 +1,5 @@
 -- The other way: a tree that a volume shows, not too deep and with room for its text, is listed.
-use Prim.Native.Nat.{ℕ, zero, suc, max, _≤_}
+use Prim.Native.Nat.{ℕ, zero, suc, _≤_, _<_}
 use mathlib.Core.Path.{_≡_, refl, sym, ap, subst, _∙_}
 use mathlib.Core.List.{List, [], _∷_, map, head-eq-of-cons-eq, tail-eq-of-cons-eq}
 use native.Mathlib.Omega.{arith}
@@ -8,7 +8,7 @@ use Rattle.error.specs.Answer.{Answer, got}
 use Rattle.error.proofs.Laws.{at-most}
 use Rattle.lines.specs.Shown.{InodeShown, EntryShown, AttributeShown, Contents, packed, plain}
 use Rattle.demand.specs.Trace.{done, Trace, _then_, reading, within}
-use Rattle.demand.specs.Tree.{Tree, node, Entries, none, entry, ofVolume}
+use Rattle.demand.specs.Tree.{Tree, node, Entries, none, entry, ofVolume, depthOf, depthIn}
 use Rattle.demand.specs.View.{View}
 use Rattle.demand.specs.Listing.{attributeLines, dataLine, entryForms, nodeForm, footed, trace, listing, levels}
 use Rattle.demand.specs.Shows.{heads, heard, ShowsContents, Shows, ShowsAll}
@@ -52,14 +52,6 @@ mutual
 
 -- ---- its listing is done
 
-abbrev mutual
-  pub height : Tree → ℕ
-  height (node f l c es) = suc (heights es)
-
-  pub heights : Entries → ℕ
-  heights none = 0
-  heights (entry e t es) = max (height t) (heights es)
-
 ends-then : (t u : Trace) → t .ended ≡ done → u .ended ≡ done → (t then u) .ended ≡ done
 unfolding _then_
 ends-then t u p q = rw p q
@@ -81,23 +73,23 @@ contents-end v f (plain d) p = rw (p .0) (ends-reading _ _ d (p .1) refl)
 mutual
   unfolding nodeForm entryForms
 
-  node-end : (v : View) (t : Tree) (i d : ℕ) → Shows v i t → height t ≤ d → nodeForm v d i .ended ≡ done
+  node-end : (v : View) (t : Tree) (i d : ℕ) → Shows v i t → depthOf t < d → nodeForm v d i .ended ≡ done
   node-end v (node f l c es) i zero p h = absurd (omega arith)
   node-end v (node f l c es) i (suc d) p h =
       ends-reading _ _ f (p .0 .inode) (ends-then _ _ refl
       (ends-reading _ _ (map heard l) (p .0 .attributes) (ends-reading _ _ (heads es) (p .0 .entries)
       (ends-then _ _ (attrs-end l) (ends-then _ _ (contents-end v f c (p .0 .contents)) (ends-then _ _ (entries-end v es d (p .1) (omega arith)) refl))))))
 
-  entries-end : (v : View) (es : Entries) (d : ℕ) → ShowsAll v es → heights es ≤ d → entryForms (nodeForm v d) (heads es) .ended ≡ done
+  entries-end : (v : View) (es : Entries) (d : ℕ) → ShowsAll v es → depthIn es ≤ d → entryForms (nodeForm v d) (heads es) .ended ≡ done
   entries-end v none d p h = refl
   entries-end v (entry e t es) d p h =
       ends-then _ _ refl (ends-then _ _ (node-end v t e.id d (p .0) (omega arith)) (ends-then _ _ refl (entries-end v es d (p .1) (omega arith))))
 
-trace-end : (v : View) (t : Tree) → Shows v 2 t → height t ≤ levels → trace v .ended ≡ done
+trace-end : (v : View) (t : Tree) → Shows v 2 t → depthOf t < levels → trace v .ended ≡ done
 unfolding trace footed
 trace-end v t p h = ends-then _ _ (ends-then _ _ refl (node-end v t 2 levels p h)) refl
 
-pub shown-listed : (v : View) (t : Tree) (room : ℕ) → Shows v 2 t → height t ≤ levels → length (ofVolume v.rule v.label t) ≤ room
+pub shown-listed : (v : View) (t : Tree) (room : ℕ) → Shows v 2 t → depthOf t < levels → length (ofVolume v.rule v.label t) ≤ room
     → listing v room ≡ got (ofVolume v.rule v.label t)
 unfolding listing within
 shown-listed v t room p h fits =

@@ -1,12 +1,13 @@
 -- The definitions at work.
-use Prim.Native.Nat.{ℕ, _+_, _-_}
+use Prim.Native.Nat.{ℕ, _+_, _-_, _*_, _^_, _≤_}
 use mathlib.Core.Path.{_≡_, refl}
 use mathlib.Core.Bool.{true, false, cond}
 use mathlib.Core.List.{List, [], _∷_}
 use lib.Dec.{eqb, ltb}
-use lib.ListN.{take, drop, length}
+use native.Mathlib.Omega.{arith}
+use lib.ListN.{take, drop, length, length-append}
 use Rattle.error.specs.Answer.{Answer, got, no, ifLe, ifEq}
-use Rattle.error.specs.declared.Refusal.the-variants.{Corrupt, BufferTooShort, Overflow, TooDeep}
+use Rattle.error.specs.declared.Refusal.the-variants.{Corrupt, BufferTooShort, Overflow, TooDeep, TooLong}
 use Rattle.text.specs.Words.{ascii, places, digits, signed, glyph, pairs}
 use Rattle.lines.specs.Shown.{EntryShown, AttributeShown, embedded}
 use Rattle.lines.specs.Lines.{volumeLine, nodeLine, formText, attributeLine, contentsLine, entryLine, totalLine, close}
@@ -16,6 +17,9 @@ use Rattle.demand.specs.View.{View}
 use Rattle.demand.specs.Listing.{attributeLines, dataLine, entryForms, nodeForm, footed, trace, listing}
 use Rattle.demand.specs.Demand.{here, nowhere, place, onward, follow, chain}
 use Rattle.demand.specs.Listers.{smallInode}
+use Rattle.demand.specs.Measure.{deepest, measured}
+use Rattle.demand.proofs.Measure.{view-long}
+use Rattle.demand.proofs.TreeTotals.{pairs-length}
 
 abbrev child : ℕ → List ℕ → EntryShown
 child i l = record { id = i; «date_added» = 7; kind = 4; label = l }
@@ -107,3 +111,48 @@ chain-down = refl
 chain-past : chain some-dirs (0 ∷ 1 ∷ 0 ∷ []) ≡ nowhere
 unfolding follow onward place
 chain-past = refl
+
+-- request 09: the root is at depth 0, and the length is that of the whole text, its foot with it
+bare-measured : measured bare ≡ got (record { length = 83; depth = 0 })
+unfolding measured deepest listing within ifLe trace nodeForm attributeLines dataLine entryForms reading _then_ volumeLine nodeLine contentsLine entryLine totalLine close footed totalsOf linesOf allLines lineTotals begins ifEq signed digits places pairs glyph
+bare-measured = refl
+
+tower-measured : measured (tower 5) ≡ got (record { length = 293; depth = 3 })
+unfolding measured deepest listing within ifLe trace nodeForm attributeLines dataLine entryForms reading _then_ volumeLine nodeLine contentsLine entryLine totalLine close footed totalsOf linesOf allLines lineTotals begins ifEq signed digits places pairs glyph
+tower-measured = refl
+
+-- the greatest depth, not the last
+dirs-measured : measured some-dirs ≡ got (record { length = 295; depth = 2 })
+unfolding measured deepest listing within ifLe trace nodeForm attributeLines dataLine entryForms reading _then_ volumeLine nodeLine contentsLine entryLine totalLine close footed totalsOf linesOf allLines lineTotals begins ifEq signed digits places pairs glyph
+dirs-measured = refl
+
+tower-66-deep : deepest (tower 66) 65 2 ≡ 64
+unfolding deepest
+tower-66-deep = refl
+
+tower-67-measured : measured (tower 67) ≡ no TooDeep
+unfolding measured deepest listing within ifLe trace nodeForm attributeLines dataLine entryForms reading _then_ volumeLine nodeLine contentsLine entryLine totalLine close footed totalsOf linesOf allLines lineTotals begins ifEq signed digits places pairs glyph
+tower-67-measured = refl
+
+-- one node, with these contents: a fault in reading them is the measurement's, and 2^31 bytes or more are too long
+abbrev holding-file : Answer (List ℕ) → View
+holding-file c = record {
+  label = 65 ∷ [];
+  rule = record { «case_insensitive» = true; «normalization_insensitive» = false };
+  inode = λ i. got (smallInode 0 i);
+  entries = λ i. got [];
+  attributes = λ i. got [];
+  contents = λ i. c;
+  read = λ i off len. c;
+}
+
+torn-measured : measured (holding-file (no Overflow)) ≡ no Overflow
+unfolding measured deepest listing within ifLe trace nodeForm attributeLines dataLine entryForms reading _then_ volumeLine nodeLine contentsLine entryLine totalLine close footed totalsOf linesOf allLines lineTotals begins ifEq signed digits places pairs glyph
+torn-measured = refl
+
+file-long : (d : List ℕ) → 2 * length d ≤ length (trace (holding-file (got d)) .text)
+unfolding trace nodeForm attributeLines dataLine entryForms reading _then_ footed contentsLine
+file-long d = simp length-append (omega (arith, pairs-length d (ascii ")\n" [])))
+
+file-too-long : (d : List ℕ) → 2 ^ 31 ≤ length d → measured (holding-file (got d)) ≡ no TooLong
+file-too-long d h = view-long (holding-file (got d)) (omega (arith, file-long d))

@@ -14,6 +14,7 @@ pub mod Lookups
 pub mod Parts
 pub mod Demand
 pub mod Foot
+pub mod Measure
 pub mod Edges
 pub mod Examples
 pub mod Listers

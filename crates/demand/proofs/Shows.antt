@@ -1,9 +1,10 @@
 -- A listing that was not refused is the text of a tree that its volume shows.
-use Prim.Native.Nat.{ℕ, zero, suc}
+use Prim.Native.Nat.{ℕ, zero, suc, _≤_, _<_}
 use mathlib.Core.Path.{_≡_, refl, sym, ap, subst, _∙_}
 use mathlib.Core.Bool.{Bool, true, false}
 use mathlib.Core.List.{List, [], _∷_, _++_, map, append-assoc, append-nil}
 use native.Mathlib.Omega.{arith}
+use borrow.Author.Needs.{zero≤}
 use Rattle.error.specs.Answer.{Answer, got, no, pick}
 use Rattle.error.specs.declared.Refusal.{Refusal}
 use Rattle.error.specs.declared.Refusal.the-variants.{TooDeep}
@@ -12,7 +13,7 @@ use Rattle.lines.specs.Shown.{InodeShown, EntryShown, AttributeShown, Contents,
 use Rattle.lines.specs.Lines.{volumeLine, contentsLine, close}
 use Rattle.totals.specs.Totals.{totalsOf}
 use Rattle.demand.specs.Trace.{End, done, stop, Trace, says, goOn, _then_, reading, textOr, within}
-use Rattle.demand.specs.Tree.{Tree, node, Entries, none, entry, ofAttributes, ofTree, ofEntries, foot, ofVolume}
+use Rattle.demand.specs.Tree.{Tree, node, Entries, none, entry, ofAttributes, ofTree, ofEntries, foot, ofVolume, depthOf, depthIn}
 use Rattle.demand.specs.View.{View}
 use Rattle.demand.specs.Shows.{heads, heard, ShowsContents, ShowsNode, Shows, ShowsAll}
 use Rattle.demand.specs.Listing.{holding, attributeLines, isPacked, dataLine, entryForms, nodeForm, footed, footLines, trace, listing, levels}
@@ -41,7 +42,7 @@ text-done : (a s : List ℕ) (e : End) → textOr a e ≡ got s → record { tex
 text-done a s done h = let p : a ≡ s = cc in ap says p
 text-done a s (stop e) h = let z : _≡_ {A = ℕ} 0 1 = cc in absurd (omega arith)
 
-within-done : (m : ℕ) (t : Trace) (s : List ℕ) → within m t ≡ got s → t ≡ says s
+pub within-done : (m : ℕ) (t : Trace) (s : List ℕ) → within m t ≡ got s → t ≡ says s
 unfolding within
 within-done m t s =
     le-cases (λ (x : Answer (List ℕ)). x ≡ got s → t ≡ says s)
@@ -88,37 +89,40 @@ contents-done v f {s} h = go (isPacked f) refl h
     go true e k = record { it = packed; shows = e; text = said (contents-writes packed) k }
     go false e k = reading-done _ _ k λ d hd g. record { it = plain d; shows = (e, hd); text = said (contents-writes (plain d)) g }
 
--- a tree that stands at that inode, and whose text is s
-pub record TreeOf (v : View) (i : ℕ) (s : List ℕ) : Type 0 where
+-- a tree that stands at that inode, in so many levels, and whose text is s
+pub record TreeOf (v : View) (d i : ℕ) (s : List ℕ) : Type 0 where
   pub tree : Tree
   pub shows : Shows v i tree
+  pub low : depthOf tree < d
   pub text : Writes (ofTree tree) s
 
-record Forms (v : View) (es : List EntryShown) (s : List ℕ) : Type 0 where
+record Forms (v : View) (d : ℕ) (es : List EntryShown) (s : List ℕ) : Type 0 where
   list : Entries
   those : es ≡ heads list
   shows : ShowsAll v list
+  low : depthIn list ≤ d
   text : Writes (ofEntries list) s
 
-entries-done : (v : View) (form : ℕ → Trace) → ((i : ℕ) (s : List ℕ) → form i ≡ says s → TreeOf v i s) → (es : List EntryShown) {s r : List ℕ} → entryForms form es ≡ says s
-    → Writes close r → Forms v es (s ++ r)
+entries-done : (v : View) (d : ℕ) (form : ℕ → Trace) → ((i : ℕ) (s : List ℕ) → form i ≡ says s → TreeOf v d i s) → (es : List EntryShown) {s r : List ℕ} → entryForms form es ≡ says s
+    → Writes close r → Forms v d es (s ++ r)
 unfolding entryForms
-entries-done v form all [] {r = r} h w = record { list = none; those = refl; shows = tt; text = moved w (ap (λ z. z .text ++ r) h) }
-entries-done v form all (e ∷ es) {r = r} h w =
+entries-done v d form all [] {r = r} h w = record { list = none; those = refl; shows = tt; low = zero≤; text = moved w (ap (λ z. z .text ++ r) h) }
+entries-done v d form all (e ∷ es) {r = r} h w =
     then-done _ _ h λ a b ha hb p.
-    then-done _ _ hb λ c d hc hd q.
-    then-done _ _ hd λ x y hx hy z.
+    then-done _ _ hb λ c k hc hk q.
+    then-done _ _ hk λ x y hx hy z.
     let kid = all e.id c hc in
-    let rest = entries-done v form all es hy w in
+    let rest = entries-done v d form all es hy w in
     record {
       list = entry e (kid .tree) (rest .list);
       those = ap (e ∷_) (rest .those);
       shows = (kid .shows, rest .shows);
+      low = omega arith;
       text = moved (said (entry-writes e) ha next kid .text next said close-writes hx next rest .text)
           (rw (← p, ← q, ← z) (simp append-assoc));
     }
 
-pub node-done : (v : View) (d i : ℕ) (s : List ℕ) → nodeForm v d i ≡ says s → TreeOf v i s
+pub node-done : (v : View) (d i : ℕ) (s : List ℕ) → nodeForm v d i ≡ says s → TreeOf v d i s
 unfolding nodeForm
 node-done v zero i s h = stopped TooDeep (ap (λ z. z .ended) h)
 node-done v (suc d) i s h =
@@ -131,10 +135,11 @@ node-done v (suc d) i s h =
     then-done _ _ h6 λ z o hz ho e4.
     let c = contents-done v f hx in
     let k = attrs-done l (c .it) hp (c .text) in
-    let kids = entries-done v (nodeForm v d) (node-done v d) es hz (said close-writes ho) in
+    let kids = entries-done v d (nodeForm v d) (node-done v d) es hz (said close-writes ho) in
     record {
       tree = node f (k .list) (c .it) (kids .list);
       shows = (record { inode = hf; attributes = hl ∙ ap got (k .those); entries = he ∙ ap got (kids .those); contents = c .shows }, kids .shows);
+      low = omega arith;
       text = moved (said (node-writes f) ha next k .text next kids .text) (rw (← e1, ← e2, ← e3, ← e4) (simp append-assoc));
     }
 
@@ -142,6 +147,7 @@ node-done v (suc d) i s h =
 pub record Listed (v : View) (s : List ℕ) : Type 0 where
   pub tree : Tree
   pub shows : Shows v 2 tree
+  pub low : depthOf tree < levels
   pub text : s ≡ ofVolume v.rule v.label tree
 
 pub trace-done : (v : View) {s : List ℕ} → trace v ≡ says s → Listed v s
@@ -153,7 +159,7 @@ trace-done v {s} h =
     let above : a ≡ volumeLine (v.rule .«case_insensitive») (v.rule .«normalization_insensitive») v.label (ofTree (t .tree) [])
     = sym (moved (said (volume-writes v.rule v.label) hc next t .text) e′ .before [] ∙ append-nil a) in
     let text : (says (volumeLine (v.rule .«case_insensitive») (v.rule .«normalization_insensitive») v.label []) then nodeForm v levels 2) .text ≡ a = ap (λ z. z .text) ha in
-    record { tree = t .tree; shows = t .shows; text = sym e ∙ ap (a ++_) (sym (ap (λ z. z .text) hb) ∙ ap (λ (x : List ℕ). footLines (totalsOf x)) text) ∙ ap foot above }
+    record { tree = t .tree; shows = t .shows; low = t .low; text = sym e ∙ ap (a ++_) (sym (ap (λ z. z .text) hb) ∙ ap (λ (x : List ℕ). footLines (totalsOf x)) text) ∙ ap foot above }
 
 pub listing-done : (v : View) (m : ℕ) {s : List ℕ} → listing v m ≡ got s → Listed v s
 unfolding listing

@@ -138,7 +138,7 @@ attribute-counts a x = of a.form
     of embedded = line-counts (ascii "(attr" []) (number a.flags ∷ hexes a.label ∷ letter 101 (λ e. omega arith) ∷ hexes a.contents ∷ []) (ascii ")" []) x tt tt
     of (streamed o) = line-counts (ascii "(attr" []) (number a.flags ∷ hexes a.label ∷ letter 115 (λ e. omega arith) ∷ number o ∷ hexes a.contents ∷ []) (ascii ")" []) x tt tt
 
-pairs-length : (d x : List ℕ) → length (pairs d x) ≡ length d + length d + length x
+pub pairs-length : (d x : List ℕ) → length (pairs d x) ≡ length d + length d + length x
 unfolding pairs
 pairs-length [] x = omega arith
 pairs-length (c ∷ d) x = omega (arith, pairs-length d x)

@@ -6,4 +6,5 @@ pub mod Shows
 pub mod Lookup
 pub mod Demand
 pub mod Foot
+pub mod Measure
 pub mod Listers

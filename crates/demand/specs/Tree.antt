@@ -1,6 +1,6 @@
--- What a listing shows, as a finite tree, its text and its totals. Document 01, "The listing (added)": "A node form holds entry forms and an entry form
+-- What a listing shows, as a finite tree, its text, its totals and its depth. Document 01, "The listing (added)": "A node form holds entry forms and an entry form
 -- holds a node form". Each function of the text takes what is to follow, `x`.
-use Prim.Native.Nat.{ℕ}
+use Prim.Native.Nat.{ℕ, suc, max}
 use mathlib.Core.List.{List, [], _∷_, _++_}
 use lib.ListN.{length}
 use Rattle.volume.specs.declared.rule.NameRule.{NameRule}
@@ -53,3 +53,12 @@ abbrev mutual
   pub entriesTotals : Entries → Totals
   entriesTotals none = noTotals
   entriesTotals (entry e t es) = plus (treeTotals t) (entriesTotals es)
+
+-- document 02, request 09, "the greatest depth of a listing": of the nodes below the root, which is at depth 0
+abbrev mutual
+  pub depthOf : Tree → ℕ
+  depthOf (node f l c es) = depthIn es
+
+  pub depthIn : Entries → ℕ
+  depthIn none = 0
+  depthIn (entry e t es) = max (suc (depthOf t)) (depthIn es)
