@@ -15,6 +15,7 @@ pub mod Parts
 pub mod Demand
 pub mod Foot
 pub mod Measure
+pub mod Whole
 pub mod Edges
 pub mod Examples
 pub mod Listers

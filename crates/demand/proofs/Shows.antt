@@ -25,7 +25,7 @@ stopped : {A : Type 0} (e : Refusal) → stop e ≡ done → A
 stopped e h = let z : _≡_ {A = ℕ} 0 1 = cc in absurd (omega arith)
 
 module _ {R : Type 0} where
-  then-done : (t u : Trace) {s : List ℕ} → t then u ≡ says s → ((a b : List ℕ) → t ≡ says a → u ≡ says b → a ++ b ≡ s → R) → R
+  pub then-done : (t u : Trace) {s : List ℕ} → t then u ≡ says s → ((a b : List ℕ) → t ≡ says a → u ≡ says b → a ++ b ≡ s → R) → R
   unfolding _then_
   then-done t u {s} h then′ = go t.text t.ended refl h
     where
@@ -33,7 +33,7 @@ module _ {R : Type 0} where
       go a done p k = then′ a u.text p (λ i. record { text = u.text; ended = k i .ended }) (ap (λ z. z .text) k)
       go a (stop e) p k = stopped e (ap (λ z. z .ended) k)
 
-  reading-done : {A : Type 0} (a : Answer A) (f : A → Trace) {s : List ℕ} → reading a f ≡ says s → ((x : A) → a ≡ got x → f x ≡ says s → R) → R
+  pub reading-done : {A : Type 0} (a : Answer A) (f : A → Trace) {s : List ℕ} → reading a f ≡ says s → ((x : A) → a ≡ got x → f x ≡ says s → R) → R
   unfolding reading
   reading-done (got x) f h then′ = then′ x refl h
   reading-done (no e) f h then′ = stopped e (ap (λ z. z .ended) h)
@@ -76,12 +76,12 @@ attrs-done (a ∷ l) c {r = r} h w =
       text = moved (said (attribute-writes (holding a d)) k next rest .text) (sym (append-assoc p q r) ∙ ap (_++ r) e);
     }
 
-record Shown (v : View) (f : InodeShown) (s : List ℕ) : Type 0 where
-  it : Contents
-  shows : ShowsContents v f it
-  text : Writes (contentsLine it) s
+pub record Shown (v : View) (f : InodeShown) (s : List ℕ) : Type 0 where
+  pub it : Contents
+  pub shows : ShowsContents v f it
+  pub text : Writes (contentsLine it) s
 
-contents-done : (v : View) (f : InodeShown) {s : List ℕ} → dataLine v f ≡ says s → Shown v f s
+pub contents-done : (v : View) (f : InodeShown) {s : List ℕ} → dataLine v f ≡ says s → Shown v f s
 unfolding dataLine
 contents-done v f {s} h = go (isPacked f) refl h
   where

@@ -121,7 +121,7 @@ line-counts head ws end x h k =
 
 -- ---- what each line counts for
 
-node-counts : (f : InodeShown) (x : List ℕ) → totalsOf (nodeLine f x) ≡ plus (counts 1 0 0) (totalsOf x)
+pub node-counts : (f : InodeShown) (x : List ℕ) → totalsOf (nodeLine f x) ≡ plus (counts 1 0 0) (totalsOf x)
 unfolding nodeLine lineTotals begins ifEq
 node-counts f x =
     line-counts (ascii "(node" []) (number f.id ∷ number f.parent ∷ number f.own ∷ number f.create ∷ number f.modify ∷ number f.change ∷ number f.access
@@ -130,7 +130,7 @@ node-counts f x =
 abbrev letter : (c : ℕ) → (c ≡ 10 → ⊥) → Flat
 letter c h = record { word = record { put = λ x. c ∷ x; after = λ y x. refl }; flat = λ x k. (h, k) }
 
-attribute-counts : (a : AttributeShown (List ℕ)) (x : List ℕ) → totalsOf (attributeLine a x) ≡ plus (counts 0 0 1) (totalsOf x)
+pub attribute-counts : (a : AttributeShown (List ℕ)) (x : List ℕ) → totalsOf (attributeLine a x) ≡ plus (counts 0 0 1) (totalsOf x)
 unfolding attributeLine formText lineTotals begins ifEq
 attribute-counts a x = of a.form
   where
@@ -146,22 +146,22 @@ pairs-length (c ∷ d) x = omega (arith, pairs-length d x)
 data-bytes : (d : List ℕ) → (length (ascii "(data x" (pairs d (ascii ")" []))) - 7) / 2 ≡ length d
 data-bytes d = omega (arith, pairs-length d (ascii ")" []))
 
-contents-counts : (c : Contents) (x : List ℕ) → totalsOf (contentsLine c x) ≡ plus (counts 0 (shownBytes c) 0) (totalsOf x)
+pub contents-counts : (c : Contents) (x : List ℕ) → totalsOf (contentsLine c x) ≡ plus (counts 0 (shownBytes c) 0) (totalsOf x)
 unfolding contentsLine lineTotals begins ifEq
 contents-counts packed x = line-counts (ascii "(packed)" []) [] [] x tt tt
 contents-counts (plain d) x =
     line-counts (ascii "(data" []) (hexes d ∷ []) (ascii ")" []) x tt tt
     ∙ ap (λ (n : ℕ). plus (counts 0 n 0) (totalsOf x)) (data-bytes d)
 
-entry-counts : (e : EntryShown) (x : List ℕ) → totalsOf (entryLine e x) ≡ plus noTotals (totalsOf x)
+pub entry-counts : (e : EntryShown) (x : List ℕ) → totalsOf (entryLine e x) ≡ plus noTotals (totalsOf x)
 unfolding entryLine lineTotals begins ifEq
 entry-counts e x = line-counts (ascii "(entry" []) (number e.id ∷ number e.«date_added» ∷ number e.kind ∷ hexes e.label ∷ []) [] x tt tt
 
-close-counts : (x : List ℕ) → totalsOf (close x) ≡ plus noTotals (totalsOf x)
+pub close-counts : (x : List ℕ) → totalsOf (close x) ≡ plus noTotals (totalsOf x)
 unfolding close lineTotals begins ifEq
 close-counts x = line-counts (ascii ")" []) [] [] x tt tt
 
-volume-counts : (c n : Bool) (l x : List ℕ) → totalsOf (volumeLine c n l x) ≡ plus noTotals (totalsOf x)
+pub volume-counts : (c n : Bool) (l x : List ℕ) → totalsOf (volumeLine c n l x) ≡ plus noTotals (totalsOf x)
 unfolding volumeLine lineTotals begins ifEq
 volume-counts c n l x = line-counts (ascii "(volume" []) (number (bit c) ∷ number (bit n) ∷ hexes l ∷ []) [] x tt tt
 
@@ -176,7 +176,7 @@ attrs-count (a ∷ l) c x =
     ∙ (λ i. plus (counts 0 (zero-add (shownBytes c) i) (e i)) t)
 
 mutual
-  tree-counts : (t : Tree) (x : List ℕ) → totalsOf (ofTree t x) ≡ plus (treeTotals t) (totalsOf x)
+  pub tree-counts : (t : Tree) (x : List ℕ) → totalsOf (ofTree t x) ≡ plus (treeTotals t) (totalsOf x)
   tree-counts (node f l c es) x =
       let own = counts 0 (shownBytes c) (length l) in
       let rest = plus (entriesTotals es) (totalsOf x) in
@@ -192,9 +192,9 @@ mutual
       ∙ tree-counts t _ ∙ ap (plus (treeTotals t)) (close-counts _ ∙ totals-start _ ∙ entries-count es x)
       ∙ sym (plus-assoc (treeTotals t) (entriesTotals es) (totalsOf x))
 
-pub totals-tree : (c n : Bool) (l : List ℕ) (t : Tree) → totalsOf (volumeLine c n l (ofTree t [])) ≡ treeTotals t
+pub totals-end : (u : Totals) → plus u (totalsOf []) ≡ u
 unfolding totalsOf linesOf allLines
+totals-end u = λ i. counts (add-zero (u .nodes) i) (add-zero (u .bytes) i) (add-zero (u .attrs) i)
+
+pub totals-tree : (c n : Bool) (l : List ℕ) (t : Tree) → totalsOf (volumeLine c n l (ofTree t [])) ≡ treeTotals t
 totals-tree c n l t = volume-counts c n l _ ∙ totals-start _ ∙ tree-counts t [] ∙ totals-end (treeTotals t)
-  where
-    totals-end : (u : Totals) → plus u noTotals ≡ u
-    totals-end u = λ i. counts (add-zero (u .nodes) i) (add-zero (u .bytes) i) (add-zero (u .attrs) i)
