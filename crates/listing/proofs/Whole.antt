@@ -39,7 +39,7 @@ use Rattle.demand.specs.Demand.{viewOf, viewOfPart, labelShown, listingOfPart}
 use Rattle.forms.specs.Inner.{ending, run}
 use Rattle.forms.proofs.Running.{run-says, run-refused, run-then}
 use Rattle.listing.specs.Listed.{listedOf}
-use Rattle.listing.specs.Inner.{Inside, footAfter}
+use Rattle.listing.specs.Inner.{bodyOf, Inside, footAfter}
 
 pub zeroed : (w : Refusal) (b c : List ℕ) → c ≡ replicate (length b) 0 → filledAt (No w) c ≡ listedOf (no w) b
 zeroed w b c h = ap (λ (x : List ℕ). filledAt (No w) x) h
@@ -124,26 +124,23 @@ module _ (t : Trace) (out : List ℕ) where
             let m : w ≡ BufferTooShort = cc in
             rw m (ap (λ (x : Answer (List ℕ)). listedOf x out) (above _ _ _ _ _ k refl))
 
--- the volume's line, the root, and the foot
-module _ (out b : List ℕ) (v : Volume) (o : Output) (k : NameRule) (l : List ℕ) (n : ℕ) (e : k ≡ ruleOf v) (f : l ≡ labelOf b v) (m : n ≡ levels)
-    (g : o ≡ puts (length out) (volumeLine (k .«case_insensitive») (k .«normalization_insensitive») (lossy l) []) (at out 0))
-    (p : Position) (c : List ℕ) (h : outputOf p c ≡ run (length out) (nodeForm (viewOf b v) n 2) o) where
-  abbrev above-foot : Trace
-  above-foot = says (volumeLine (ruleOf v .«case_insensitive») (ruleOf v .«normalization_insensitive») (labelShown b v) []) then nodeForm (viewOf b v) levels 2
+-- the volume's line and the root
+pub body-whole : (room : ℕ) (b : List ℕ) (v : Volume) (o p z : Output) (k : NameRule) (l : List ℕ) (n : ℕ) → k ≡ ruleOf v → l ≡ labelOf b v → n ≡ levels
+    → p ≡ puts room (volumeLine (k .«case_insensitive») (k .«normalization_insensitive») (lossy l) []) o → z ≡ run room (nodeForm (viewOf b v) n 2) p → z ≡ run room (bodyOf b v) o
+unfolding labelShown
+body-whole room b v o p z k l n e f m g h =
+    let line : p ≡ puts room (volumeLine (ruleOf v .«case_insensitive») (ruleOf v .«normalization_insensitive») (lossy (labelOf b v)) []) o = rw (e, f) at g in
+    let root : z ≡ run room (nodeForm (viewOf b v) levels 2) p = rw m at h in
+    root ∙ ap (run room (nodeForm (viewOf b v) levels 2)) (run-says room _ o p line) ∙ sym (run-then room _ _ o)
 
-  body-run : outputOf p c ≡ run (length out) above-foot (at out 0)
-  unfolding labelShown
-  body-run =
-      let line : o ≡ puts (length out) (volumeLine (ruleOf v .«case_insensitive») (ruleOf v .«normalization_insensitive») (lossy (labelOf b v)) []) (at out 0) = rw (e, f) at g in
-      let root : outputOf p c ≡ run (length out) (nodeForm (viewOf b v) levels 2) o = rw m at h in
-      root ∙ ap (run (length out) (nodeForm (viewOf b v) levels 2)) (run-says (length out) _ (at out 0) o line) ∙ sym (run-then (length out) _ _ (at out 0))
-
+-- and the foot
+module _ (out b : List ℕ) (v : Volume) (p : Position) (c : List ℕ) (h : outputOf p c ≡ run (length out) (bodyOf b v) (at out 0)) where
   pub foot-inside : Inside p c
-  foot-inside = placed-inside above-foot out p c body-run
+  foot-inside = placed-inside (bodyOf b v) out p c h
 
   pub listing-whole : (z : Output) → z ≡ footAfter (length out) (outputOf p c) → z ≡ run (length out) (trace (viewOf b v)) (at out 0)
   unfolding trace
-  listing-whole = foot-run above-foot out p c body-run
+  listing-whole = foot-run (bodyOf b v) out p c h
 
 pub inside-at : (p : Position) (b : List ℕ) (n : ℕ) → Inside p b → p ≡ At n → n ≤ length b
 inside-at p b n h q = rw q at h
@@ -157,12 +154,13 @@ module _ (room : ℕ) (p : Position) (b : List ℕ) where
   unfolding footAfter
   foot-refused e q = rw q
 
-  pub foot-written : (n : ℕ) (t : Totals) (x z : Output) → p ≡ At n → t ≡ totalsOf (take n b) → x ≡ puts room (totalLine (t .nodes) (t .bytes) (t .attrs) []) (at b n)
-      → z ≡ puts room (ascii ")\n" []) x → z ≡ footAfter room (outputOf p b)
-  unfolding footAfter close
-  foot-written n t x z q e g k =
-      let s : z ≡ puts room (footLines t) (at b n) = (then) room (at b n) x z _ (close []) (footLines t) (total-append (t .nodes) (t .bytes) (t .attrs) (close [])) g k in
-      rw q (s ∙ ap (λ (u : Totals). puts room (footLines u) (at b n)) e)
+  pub foot-written : (n : ℕ) (t : Totals) (z : Output) → p ≡ At n → t ≡ totalsOf (take n b) → z ≡ puts room (footLines t) (at b n) → z ≡ footAfter room (outputOf p b)
+  unfolding footAfter
+  foot-written n t z q e g = rw q (g ∙ ap (λ (u : Totals). puts room (footLines u) (at b n)) e)
+
+pub foot-lines : (room : ℕ) (t : Totals) (o x z : Output) → x ≡ puts room (totalLine (t .nodes) (t .bytes) (t .attrs) []) o → z ≡ puts room (ascii ")\n" []) x → z ≡ puts room (footLines t) o
+unfolding close
+foot-lines room t o x z g k = (then) room o x z _ (close []) (footLines t) (total-append (t .nodes) (t .bytes) (t .attrs) (close [])) g k
 
 module _ (image : List ℕ) (index : Which) (n : ℕ) (out : List ℕ) (r : VolumeOpened) (p : openTold r ≡ volumeOfImage image index) where
   -- the listing, by what opening answered
@@ -179,4 +177,4 @@ module _ (image : List ℕ) (index : Which) (n : ℕ) (out : List ℕ) (r : Volu
   pub list-refused : (w : Refusal) (z : Filled) → r .volume ≡ VolumeOpening.No w → z ≡ listedOf (no w) out → z ≡ listedOf (listingOfPart image index n) out
   list-refused w z q h = h ∙ opened (VolumeOpening.No w) q
 
-pub ruleset all = (needs, foot-refused, foot-written, foot-inside, inside-at, front-length, listing-whole, zeroed, listed-got, listed-no, list-opened, list-refused)
+pub ruleset all = (needs, body-whole, foot-lines, foot-refused, foot-written, foot-inside, inside-at, front-length, listing-whole, zeroed, listed-got, listed-no, list-opened, list-refused)

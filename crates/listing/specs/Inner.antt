@@ -8,13 +8,21 @@ use Rattle.text.specs.declared.Position.{Position}
 use Rattle.text.specs.declared.Position.the-variants.{At, No}
 use Rattle.totals.specs.Totals.{totalsOf}
 use Rattle.lines.specs.Shown.{EntryShown}
-use Rattle.lines.specs.Lines.{entryLine, close}
+use Rattle.volume.specs.Rule.{ruleOf}
+use Rattle.volume.specs.declared.Volume.{Volume}
+use Rattle.lists.specs.Lists.{rootId}
+use Rattle.lines.specs.Lines.{volumeLine, entryLine, close}
 use Rattle.demand.specs.Trace.{Trace, says, _then_}
-use Rattle.demand.specs.Listing.{footLines}
+use Rattle.demand.specs.Listing.{levels, nodeForm, footLines}
+use Rattle.demand.specs.Demand.{viewOf, labelShown}
 
 -- "`(entry ID DATE KIND NAME`, the node of that ID, `)`"
 unfoldable pub entryForm : (ℕ → Trace) → EntryShown → Trace
 entryForm form e = says (entryLine e []) then form (e .id) then says (close [])
+
+-- all above the foot: the trace of a listing is this with its foot
+abbrev pub bodyOf : List ℕ → Volume → Trace
+bodyOf b v = says (volumeLine (ruleOf v .«case_insensitive») (ruleOf v .«normalization_insensitive») (labelShown b v) []) then nodeForm (viewOf b v) levels rootId
 
 -- a position in the buffer or at its end
 abbrev pub Inside : Position → List ℕ → Type 0

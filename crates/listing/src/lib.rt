@@ -3,4 +3,6 @@ mod list;
 mod writers;
 
 pub use list::list_text;
+pub use list::put_body;
+pub use list::put_foot;
 pub use list::refuse_zeroed;

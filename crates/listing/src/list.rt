@@ -9,6 +9,7 @@ use lists::ROOT;
 use text::Position;
 use text::clear;
 use text::put_all;
+use totals::Totals;
 use totals::totals_in;
 use volume::Volume;
 use volume::VolumeOpening;
@@ -18,16 +19,24 @@ use volume::open_at;
 ghost use mathlib.Core.Path.{_≡_};
 ghost use lib.ListN.{length};
 ghost use Rattle.error.specs.Answer.{no};
-ghost use Rattle.text.specs.Output.{outputOf, at};
+ghost use Rattle.text.specs.Output.{outputOf, at, puts};
 ghost use Rattle.calls.specs.Filled.{filledAt};
-ghost use Rattle.demand.specs.Listing.{trace, listing};
+ghost use Rattle.demand.specs.Listing.{footLines, trace, listing};
 ghost use Rattle.demand.specs.Demand.{viewOf, listingOfPart};
 ghost use Rattle.forms.specs.Inner.{run};
 ghost use Rattle.listing.specs.Listed.{listedOf};
-ghost use Rattle.listing.specs.Inner.{Inside, footAfter};
+ghost use Rattle.listing.specs.Inner.{bodyOf, Inside, footAfter};
 
-// The totals of the text up to the position, and the last bracket.
-fn put_foot(out: &mut [u8], room: usize, p: Position) -> Position
+// The totals, and the last bracket.
+pub fn put_foot(out: &mut [u8], room: usize, p: Position, t: Totals) -> Position
+    ensures { λ r. ⌜ outputOf r (now (out .exit)) ≡ puts room (footLines t) (outputOf p (now (out .entry))) ⌝ }
+{
+    let q = put_total_line(out, room, p, t.nodes, t.bytes, t.attrs);
+    put_all(out, room, q, b")\n")
+}
+
+// The foot of the text up to the position.
+fn put_own_foot(out: &mut [u8], room: usize, p: Position) -> Position
     requires { ⌜ Inside p (now out) ⌝ }
     ensures { λ r. ⌜ outputOf r (now (out .exit)) ≡ footAfter room (outputOf p (now (out .entry))) ⌝ }
 {
@@ -35,16 +44,15 @@ fn put_foot(out: &mut [u8], room: usize, p: Position) -> Position
         Position::No(e) => Position::No(e),
         Position::At(n) => {
             let t = totals_in(&out[..n]);
-            let q = put_total_line(out, room, p, t.nodes, t.bytes, t.attrs);
-            put_all(out, room, q, b")\n")
+            put_foot(out, room, p, t)
         }
     }
 }
 
-fn put_listing(out: &mut [u8], image: &[u8], v: Volume) -> Position
-    ensures { λ r. ⌜ outputOf r (now (out .exit)) ≡ run (length (now (out .entry))) (trace (viewOf (now (image .entry)) v)) (at (now (out .entry)) 0) ⌝ }
+// All above the foot.
+pub fn put_body(out: &mut [u8], room: usize, image: &[u8], v: Volume) -> Position
+    ensures { λ r. ⌜ outputOf r (now (out .exit)) ≡ run room (bodyOf (now (image .entry)) v) (at (now (out .entry)) 0) ⌝ }
 {
-    let room = out.len();
     let rule = name_rule(v);
     let label = label_of(image, v);
     let a = put_volume_line(
@@ -55,8 +63,15 @@ fn put_listing(out: &mut [u8], image: &[u8], v: Volume) -> Position
         rule.normalization_insensitive,
         label,
     );
-    let b = put_node(out, room, a, image, v, ROOT, levels());
-    put_foot(out, room, b)
+    put_node(out, room, a, image, v, ROOT, levels())
+}
+
+fn put_listing(out: &mut [u8], image: &[u8], v: Volume) -> Position
+    ensures { λ r. ⌜ outputOf r (now (out .exit)) ≡ run (length (now (out .entry))) (trace (viewOf (now (image .entry)) v)) (at (now (out .entry)) 0) ⌝ }
+{
+    let room = out.len();
+    let p = put_body(out, room, image, v);
+    put_own_foot(out, room, p)
 }
 
 // A refused listing leaves its buffer all zeros.

@@ -7,14 +7,8 @@ pub put-foot-spec : {M : Type 1} → statement M
 put-foot-spec =
     tie.close
     (tie.spec
-    (λ c. search all)
-    (λ c. search all)
-    (λ c. search all)
-    (λ c. search all)
-    (λ c κs. search all)
     (λ c κs. search all)
     (λ c. search all)
     (λ c κs. search all)
-    (λ c. search all)
     (λ c. search all)
     (λ c. search all))

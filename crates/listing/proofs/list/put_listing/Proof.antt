@@ -7,11 +7,7 @@ pub put-listing-spec : {M : Type 1} → statement M
 put-listing-spec =
     tie.close
     (tie.spec
-    (λ c κs. search needs)
-    (λ c κs. search needs)
-    (λ c κs. search needs)
-    (λ c κs. search needs)
-    (λ c κs. search needs)
     (λ c κs. search all)
-    (λ c. search needs)
+    (λ c κs. search all)
+    (λ c. search all)
     (λ c. search all))
