@@ -30,12 +30,12 @@ use Rattle.demand.proofs.Callable.{Short}
 
 module _ (image : List ℕ) (v : Volume) where
   -- the inode behind what is shown, by the id that is shown
-  record Behind (f : InodeShown) : Type 0 where
-    it : Inode
-    found : inodeOf image v (f .id) 0 .answer ≡ got it
-    shown : inodeShown (v .reader) image it ≡ f
+  pub record Behind (f : InodeShown) : Type 0 where
+    pub it : Inode
+    pub found : inodeOf image v (f .id) 0 .answer ≡ got it
+    pub shown : inodeShown (v .reader) image it ≡ f
 
-  behind : (i : ℕ) (f : InodeShown) → inodeAnswer image v i ≡ got f → Behind f
+  pub behind : (i : ℕ) (f : InodeShown) → inodeAnswer image v i ≡ got f → Behind f
   unfolding inodeAnswer inodeShown
   behind i f h =
       let a = bound (inodeOf image v i 0 .answer) _ f h in
@@ -43,7 +43,7 @@ module _ (image : List ℕ) (v : Volume) where
       let n : f .id ≡ i = sym (ap (λ (g : InodeShown). g .id) q) ∙ inode-placed image v i 0 (a .0) (a .1 .0) .parts .named in
       record { it = a .0; found = ap (λ (k : ℕ). inodeOf image v k 0 .answer) n ∙ a .1 .0; shown = q }
 
-  bit-behind : (f : InodeShown) (b : Behind f) → compressed (b .it) ≡ f .bsd / 32 % 2
+  pub bit-behind : (f : InodeShown) (b : Behind f) → compressed (b .it) ≡ f .bsd / 32 % 2
   unfolding inodeShown
   bit-behind f b = ap (λ (g : InodeShown). g .bsd / 32 % 2) (b .shown)
 
@@ -65,14 +65,14 @@ module _ (image : List ℕ) (v : Volume) where
   pub volume-reads : length image ≤ 2 ^ 64 → Reads (viewOf image v)
   volume-reads small = record { of-packed = read-packed; of-plain = λ i f bs h p c off len. read-plain small i f bs h c off len }
 
-  whole-length : (i : Inode) (bs : List ℕ) → readWhole image v i 0 .answer ≡ got bs → length bs ≤ sizeOf i
+  pub whole-length : (i : Inode) (bs : List ℕ) → readWhole image v i 0 .answer ≡ got bs → length bs ≡ sizeOf i
   unfolding readWhole readPlain readAll
   whole-length i bs =
-      eq-cases (λ (x : Counted (List ℕ)). x .answer ≡ got bs → length bs ≤ sizeOf i)
+      eq-cases (λ (x : Counted (List ℕ)). x .answer ≡ got bs → length bs ≡ sizeOf i)
       (λ h e. absurd (let z : _≡_ {A = ℕ} 0 1 = cc in omega arith))
       (λ h e. of (extentsOf image v (i .ids .«private_id») 0 .nodes) (extentsOf image v (i .ids .«private_id») 0 .answer) e)
     where
-      of : (n : ℕ) (a : Answer (List Extent)) → (from n a λ es. after n (readAll (diskOf (v .reader) image) (sizeOf i) es)) .answer ≡ got bs → length bs ≤ sizeOf i
+      of : (n : ℕ) (a : Answer (List Extent)) → (from n a λ es. after n (readAll (diskOf (v .reader) image) (sizeOf i) es)) .answer ≡ got bs → length bs ≡ sizeOf i
       of n (got es) e = omega (arith, read-length (diskOf (v .reader) image) (sizeOf i) es 0 (sizeOf i) bs (went (apart es) _ _ e .1))
       of n (no x) e = absurd (let z : _≡_ {A = ℕ} 0 1 = cc in omega arith)
 

@@ -143,6 +143,19 @@ node-done v (suc d) i s h =
       text = moved (said (node-writes f) ha next k .text next kids .text) (rw (← e1, ← e2, ← e3, ← e4) (simp append-assoc));
     }
 
+-- all above the foot
+pub record Body (v : View) (s : List ℕ) : Type 0 where
+  pub tree : Tree
+  pub shows : Shows v 2 tree
+  pub low : depthOf tree < levels
+  pub text : s ≡ volumeLine (v.rule .«case_insensitive») (v.rule .«normalization_insensitive») v.label (ofTree tree [])
+
+pub body-done : (v : View) {s : List ℕ} → says (volumeLine (v.rule .«case_insensitive») (v.rule .«normalization_insensitive») v.label []) then nodeForm v levels 2 ≡ says s → Body v s
+body-done v {s} h =
+    then-done _ _ h λ a b ha hb e.
+    let t = node-done v levels 2 b hb in
+    record { tree = t .tree; shows = t .shows; low = t .low; text = sym (moved (said (volume-writes v.rule v.label) ha next t .text) e .before [] ∙ append-nil s) }
+
 -- the whole
 pub record Listed (v : View) (s : List ℕ) : Type 0 where
   pub tree : Tree
@@ -151,15 +164,12 @@ pub record Listed (v : View) (s : List ℕ) : Type 0 where
   pub text : s ≡ ofVolume v.rule v.label tree
 
 pub trace-done : (v : View) {s : List ℕ} → trace v ≡ says s → Listed v s
-unfolding trace footed _then_
+unfolding trace footed
 trace-done v {s} h =
     then-done _ _ h λ a b ha hb e.
-    then-done _ _ ha λ c d hc hd e′.
-    let t = node-done v levels 2 d hd in
-    let above : a ≡ volumeLine (v.rule .«case_insensitive») (v.rule .«normalization_insensitive») v.label (ofTree (t .tree) [])
-    = sym (moved (said (volume-writes v.rule v.label) hc next t .text) e′ .before [] ∙ append-nil a) in
-    let text : (says (volumeLine (v.rule .«case_insensitive») (v.rule .«normalization_insensitive») v.label []) then nodeForm v levels 2) .text ≡ a = ap (λ z. z .text) ha in
-    record { tree = t .tree; shows = t .shows; low = t .low; text = sym e ∙ ap (a ++_) (sym (ap (λ z. z .text) hb) ∙ ap (λ (x : List ℕ). footLines (totalsOf x)) text) ∙ ap foot above }
+    let t = body-done v ha in
+    let last : footLines (totalsOf a) ≡ b = ap (λ (z : Trace). footLines (totalsOf (z .text))) (sym ha) ∙ ap (λ (z : Trace). z .text) hb in
+    record { tree = t .tree; shows = t .shows; low = t .low; text = sym e ∙ ap (a ++_) (sym last) ∙ ap foot (t .text) }
 
 pub listing-done : (v : View) (m : ℕ) {s : List ℕ} → listing v m ≡ got s → Listed v s
 unfolding listing
