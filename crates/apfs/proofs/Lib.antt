@@ -8,3 +8,4 @@ pub mod Alike
 pub mod Opened
 pub mod Checkpoints
 pub mod WrongWords
+pub mod Measured

@@ -2,3 +2,4 @@ pub mod Call
 pub mod Opened
 pub mod Checkpoints
 pub mod WrongWords
+pub mod Measured

@@ -7,6 +7,7 @@ use crate::on_part::extent_part;
 use crate::on_part::link_part;
 use crate::on_part::list_part;
 use crate::on_part::lookup_part;
+use crate::on_part::measure_part;
 use crate::on_part::open_part;
 use crate::on_part::read_part;
 use crate::on_part::replaced_part;
@@ -29,6 +30,7 @@ ghost use Rattle.entry_lines.specs.Entries.{entriesText};
 ghost use Rattle.attribute_lines.specs.Attributes.{attributeText};
 ghost use Rattle.reads.specs.Reads.{readText, linkText, xattrBytes};
 ghost use Rattle.replaced_line.specs.Line.{replacedText};
+ghost use Rattle.measure.specs.Line.{measureText};
 ghost use Rattle.apfs.specs.Call.{number, resultOf, bufferOf};
 ghost use Rattle.checkpoints.specs.Numbers.{numbersAt};
 ghost use Rattle.checkpoints.specs.declared.by_number.Choice.the-variants.{Number};
@@ -257,6 +259,20 @@ pub extern "C" fn apfs_list_at(image: &[u8], xid: u64, volume: u64, out: &mut [u
     ensures { λ r. ⌜ (r ≡ number (listedOf (listingOf (now (image .entry)) (numbered xid volume) (length (now (out .entry)))) (now (out .entry)) .answer)) × (now (out .exit) ≡ listedOf (listingOf (now (image .entry)) (numbered xid volume) (length (now (out .entry)))) (now (out .entry)) .buffer) ⌝ }
 {
     list_part(
+        image,
+        Which {
+            checkpoint: Choice::Number(xid),
+            index: volume,
+        },
+        out,
+    )
+}
+
+#[no_mangle]
+pub extern "C" fn apfs_measure_at(image: &[u8], xid: u64, volume: u64, out: &mut [u8]) -> i64
+    ensures { λ r. ⌜ (r ≡ resultOf (onPart (λ p. measureText p (numbered xid volume)) (now (image .entry))) (now (out .entry))) × (now (out .exit) ≡ bufferOf (onPart (λ p. measureText p (numbered xid volume)) (now (image .entry))) (now (out .entry))) ⌝ }
+{
+    measure_part(
         image,
         Which {
             checkpoint: Choice::Number(xid),

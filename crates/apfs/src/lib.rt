@@ -12,6 +12,7 @@ use crate::on_part::extent_part;
 use crate::on_part::link_part;
 use crate::on_part::list_part;
 use crate::on_part::lookup_part;
+use crate::on_part::measure_part;
 use crate::on_part::open_part;
 use crate::on_part::read_part;
 use crate::on_part::replaced_part;
@@ -25,6 +26,7 @@ pub use earlier::apfs_extent_at;
 pub use earlier::apfs_link_at;
 pub use earlier::apfs_list_at;
 pub use earlier::apfs_lookup_at;
+pub use earlier::apfs_measure_at;
 pub use earlier::apfs_open_at;
 pub use earlier::apfs_read_at;
 pub use earlier::apfs_replaced_at;
@@ -45,6 +47,7 @@ ghost use Rattle.entry_lines.specs.Entries.{entriesText};
 ghost use Rattle.attribute_lines.specs.Attributes.{attributeText};
 ghost use Rattle.reads.specs.Reads.{readText, linkText, xattrBytes};
 ghost use Rattle.replaced_line.specs.Line.{replacedText};
+ghost use Rattle.measure.specs.Line.{measureText};
 ghost use Rattle.apfs.specs.Call.{number, resultOf, bufferOf};
 ghost use Rattle.checkpoints.specs.declared.by_number.Choice.the-variants.{Latest};
 ghost use Rattle.volume.specs.Open.{latest};
@@ -242,6 +245,21 @@ pub extern "C" fn apfs_list(image: &[u8], volume: u64, out: &mut [u8]) -> i64
     ensures { λ r. ⌜ (r ≡ number (listedOf (listingOf (now (image .entry)) (latest volume) (length (now (out .entry)))) (now (out .entry)) .answer)) × (now (out .exit) ≡ listedOf (listingOf (now (image .entry)) (latest volume) (length (now (out .entry)))) (now (out .entry)) .buffer) ⌝ }
 {
     list_part(
+        image,
+        Which {
+            checkpoint: Choice::Latest,
+            index: volume,
+        },
+        out,
+    )
+}
+
+// How long the listing of a volume will be, and how deep.
+#[no_mangle]
+pub extern "C" fn apfs_measure(image: &[u8], volume: u64, out: &mut [u8]) -> i64
+    ensures { λ r. ⌜ (r ≡ resultOf (onPart (λ p. measureText p (latest volume)) (now (image .entry))) (now (out .entry))) × (now (out .exit) ≡ bufferOf (onPart (λ p. measureText p (latest volume)) (now (image .entry))) (now (out .entry))) ⌝ }
+{
+    measure_part(
         image,
         Which {
             checkpoint: Choice::Latest,

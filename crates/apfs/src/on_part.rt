@@ -13,6 +13,7 @@ use entry_lines::entries_text;
 use gpt::part_of_image;
 use listing::list_text;
 use listing::refuse_zeroed;
+use measure::measure_text;
 use reads::link_text;
 use reads::read_text;
 use reads::xattr_bytes;
@@ -29,6 +30,7 @@ ghost use Rattle.entry_lines.specs.Entries.{entriesText};
 ghost use Rattle.attribute_lines.specs.Attributes.{attributeText};
 ghost use Rattle.reads.specs.Reads.{readText, linkText, xattrBytes};
 ghost use Rattle.replaced_line.specs.Line.{replacedText};
+ghost use Rattle.measure.specs.Line.{measureText};
 ghost use Rattle.apfs.specs.Call.{number, resultOf, bufferOf};
 
 // The line of a container.
@@ -107,6 +109,16 @@ pub fn link_part(image: &[u8], which: Which, id: u64, out: &mut [u8]) -> i64
 {
     match part_of_image(image) {
         Sliced::Got(s) => result(link_text(part(image, s), which, id, out)),
+        Sliced::No(e) => refused(e),
+    }
+}
+
+// The line of how long the listing will be, and how deep.
+pub fn measure_part(image: &[u8], which: Which, out: &mut [u8]) -> i64
+    ensures { λ r. ⌜ (r ≡ resultOf (onPart (λ p. measureText p which) (now (image .entry))) (now (out .entry))) × (now (out .exit) ≡ bufferOf (onPart (λ p. measureText p which) (now (image .entry))) (now (out .entry))) ⌝ }
+{
+    match part_of_image(image) {
+        Sliced::Got(s) => result(measure_text(part(image, s), which, out)),
         Sliced::No(e) => refused(e),
     }
 }
