@@ -9,6 +9,8 @@ use apfs::apfs_list;
 use apfs::apfs_list_at;
 use apfs::apfs_lookup;
 use apfs::apfs_lookup_at;
+use apfs::apfs_measure;
+use apfs::apfs_measure_at;
 use apfs::apfs_open;
 use apfs::apfs_open_at;
 use apfs::apfs_read;
@@ -28,8 +30,8 @@ fn written_on(out: &mut [u8]) {
     }
 }
 
-// At an earlier checkpoint, the list of them, or an object's wrong words: the input is a path, a transaction number or the
-// object.
+// At an earlier checkpoint, the list of them, an object's wrong words, or how long a listing will be: the input is a path,
+// a transaction number or the object.
 fn made_at(r: Record, image: &[u8], input: &[u8], out: &mut [u8]) -> i64 {
     let op = r.op;
     match op {
@@ -38,6 +40,8 @@ fn made_at(r: Record, image: &[u8], input: &[u8], out: &mut [u8]) -> i64 {
         14 => apfs_lookup_at(image, r.a, r.volume, input, out),
         15 => apfs_list_at(image, r.a, r.volume, out),
         17 => apfs_wrong_words(input, out),
+        18 => apfs_measure(image, r.volume, out),
+        19 => apfs_measure_at(image, r.a, r.volume, out),
         _ => apfs_read_at(
             image,
             value(bytes::u64_at(input, 0)),
@@ -105,7 +109,7 @@ pub fn agrees(r: Record, image: &[u8], input: &[u8], out: &mut [u8]) -> bool {
     if r.op < 3 {
         return false;
     }
-    if 17 < r.op {
+    if 19 < r.op {
         return false;
     }
     if out.len() < room {

@@ -1,18 +1,18 @@
 // Document 01's cases, and a sample of calls on sticks: makes each recorded call, and says how many agree.
+mod agreement;
 mod image;
 mod made;
 mod record;
-mod tally;
 
+use crate::agreement::Tally;
+use crate::agreement::counted;
+use crate::agreement::print_kinds;
+use crate::agreement::print_tally;
 use crate::image::laid_out;
 use crate::image::wiped;
 use crate::made::agrees;
 use crate::record::Record;
 use crate::record::next_record;
-use crate::tally::Tally;
-use crate::tally::counted;
-use crate::tally::print_kinds;
-use crate::tally::print_tally;
 use bytes::Span;
 use bytes::part;
 
@@ -32,7 +32,7 @@ fn gone_through(
     t: Tally,
     image: &mut [u8],
     out: &mut [u8],
-    kinds: &mut [u64; 285],
+    kinds: &mut [u64; 323],
 ) -> Tally {
     let op = r.op;
     if op == TITLE {
@@ -76,7 +76,7 @@ fn filled(input: &mut [u8], len: usize) -> bool {
 }
 
 // Whether the file was gone through to its end.
-fn replay(input: &mut [u8], image: &mut [u8], out: &mut [u8], kinds: &mut [u64; 285]) -> bool {
+fn replay(input: &mut [u8], image: &mut [u8], out: &mut [u8], kinds: &mut [u64; 323]) -> bool {
     let mut tally = Tally {
         titled: false,
         agree: 0,
@@ -104,7 +104,7 @@ fn replay(input: &mut [u8], image: &mut [u8], out: &mut [u8], kinds: &mut [u64; 
 fn replay_into(image: &mut [u8]) {
     let mut input = [0u8; 65536];
     let mut out = [0u8; 65536];
-    let mut kinds = [0u64; 285];
+    let mut kinds = [0u64; 323];
     let whole = replay(&mut input, image, &mut out, &mut kinds);
     print_kinds(&kinds);
     if !whole {

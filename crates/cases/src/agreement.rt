@@ -19,7 +19,7 @@ fn kind_of(op: u8, refusal: u8) -> usize {
     if op < 3 {
         return 0;
     }
-    if 17 < op {
+    if 19 < op {
         return 0;
     }
     if 18 < refusal {
@@ -28,7 +28,7 @@ fn kind_of(op: u8, refusal: u8) -> usize {
     (op - 3) as usize * 19 + refusal as usize
 }
 
-pub fn counted(t: Tally, r: Record, same: bool, kinds: &mut [u64; 285]) -> Tally {
+pub fn counted(t: Tally, r: Record, same: bool, kinds: &mut [u64; 323]) -> Tally {
     if !same {
         return Tally {
             titled: t.titled,
@@ -38,7 +38,7 @@ pub fn counted(t: Tally, r: Record, same: bool, kinds: &mut [u64; 285]) -> Tally
         };
     }
     let k = kind_of(r.op, r.refusal);
-    if k < 285 {
+    if k < 323 {
         kinds[k] = one_more(kinds[k]);
     }
     Tally {
@@ -71,7 +71,9 @@ fn print_export_at(op: usize) -> bool {
         11 => io::write_all(1, b"apfs_lookup_at: "),
         12 => io::write_all(1, b"apfs_list_at: "),
         13 => io::write_all(1, b"apfs_read_at: "),
-        _ => io::write_all(1, b"apfs_wrong_words: "),
+        14 => io::write_all(1, b"apfs_wrong_words: "),
+        15 => io::write_all(1, b"apfs_measure: "),
+        _ => io::write_all(1, b"apfs_measure_at: "),
     }
 }
 
@@ -107,9 +109,9 @@ fn print_kind(op: usize, refusal: usize, n: u64) {
     io::print_decimal(1, refusal as u64);
 }
 
-pub fn print_kinds(kinds: &[u64; 285]) {
+pub fn print_kinds(kinds: &[u64; 323]) {
     let mut k = 0;
-    while k < 285 {
+    while k < 323 {
         print_kind(k / 19, k % 19, kinds[k]);
         k += 1;
         if k % 19 == 0 {

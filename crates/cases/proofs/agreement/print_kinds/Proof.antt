@@ -1,14 +1,14 @@
--- `tally::print_kinds` meets its contract.
+-- `agreement::print_kinds` meets its contract.
 use Prim.Native.Nat.{_-_, _≤_}
 use borrow.Author.Needs.{needs}
-use Rattle.cases.proofs.tally.print_kinds.Statement.{statement}
-use Rattle.cases.proofs.tally.print_kinds.Tie as tie
+use Rattle.cases.proofs.agreement.print_kinds.Statement.{statement}
+use Rattle.cases.proofs.agreement.print_kinds.Tie as tie
 
 abbrev Inv-loop : tie.InvT-loop
-Inv-loop kinds k₀ t3 k = k ≤ 285
+Inv-loop kinds k₀ t3 k = k ≤ 323
 
 abbrev μ-loop : tie.MeasureT-loop
-μ-loop kinds k₀ t3 k = 285 - k
+μ-loop kinds k₀ t3 k = 323 - k
 
 pub print-kinds-spec : {M : Type 1} → statement M
 print-kinds-spec =
