@@ -64,6 +64,8 @@ by_numbers! {
     replaced: apfs_replaced, apfs_replaced_at(kind, id, place);
     /// The listing of the whole volume; where refused, `out` is left all zeros.
     list: apfs_list, apfs_list_at();
+    /// The line `(measure LENGTH DEPTH)`: how many bytes that listing has, and its greatest depth, without its text.
+    measure: apfs_measure, apfs_measure_at();
 }
 
 extern "C" {

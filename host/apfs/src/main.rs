@@ -7,6 +7,7 @@
 //! apfs cat IMAGE PATH             a file's bytes
 //! apfs xattr IMAGE PATH [NAME]    the attributes; with a name, its bytes
 //! apfs list IMAGE                 the listing of a whole volume
+//! apfs measure IMAGE              how many bytes that listing has, and its greatest depth, the root's being 0
 //! apfs words IMAGE BLOCK          of a block that fails its checksum, each place where one other word would mend it
 //! apfs checkpoints IMAGE          the transaction numbers of the checkpoints, one a line, the latest first
 //! ```
@@ -14,8 +15,8 @@
 //! An image is of a stick with a GUID partition table, or of an APFS partition alone. `--volume N` names another volume
 //! than the first, which is 0, and `--checkpoint N` another checkpoint than the latest, so that the stick is read as it
 //! was then; `--block-size N` says how long the block of `words` is, which is else 4,096. Refusals go to standard error, and the exit status is then 1; it is 2 where the arguments are wrong. A
-//! listing has as much room as it needs, up to 1 GiB or eight times the partition; sparse files may ask for more, which
-//! is refusal 6.
+//! listing is measured first, and has as much room as it needs; sparse files may ask for more than 4,294,967,295 bytes,
+//! which is refusal 14.
 //!
 //! Behind a name of which bytes are damaged `ls`, `stat` and `xattr` say how many parts of it are shown as U+FFFD, as in
 //! `(2 damaged)`; a U+FFFD that was typed is none of them.
@@ -29,7 +30,7 @@ use std::process::exit;
 use apfs::calls::Which;
 use tool::ask::Asked;
 use tool::failure::Failure;
-use tool::{cat, checkpoints, list, ls, sample, stat, usage, words, xattr};
+use tool::{cat, checkpoints, list, ls, measure, sample, stat, usage, words, xattr};
 
 /// Of a block, where it is not said.
 const BLOCK: u64 = 4096;
@@ -82,6 +83,7 @@ fn run(a: &Arguments, out: &mut dyn Write) -> Result<(), Failure> {
             xattr::bytes(&asked(image)?, path.as_encoded_bytes(), name.as_encoded_bytes(), out)
         }
         ("list", [image]) => list::run(&asked(image)?, out),
+        ("measure", [image]) => measure::run(&asked(image)?, out),
         (name, _) => Err(Failure::Usage(usage::of(name))),
     }
 }

@@ -44,11 +44,21 @@ fn latest_list(image: &[u8], volume: u64, out: &mut [u8]) -> i64 {
     list(image, Which::latest(volume), out)
 }
 
-fn list_port() -> Option<list::Port<'static>> {
+#[cfg(feature = "calls")]
+fn latest_measure(image: &[u8], volume: u64, out: &mut [u8]) -> i64 {
+    use compare::port::calls::{measure, Which};
+    measure(image, Which::latest(volume), out)
+}
+
+fn list_ports() -> Option<list::Ports<'static>> {
     #[cfg(feature = "calls")]
-    return Some(&latest_list);
+    return Some(list::Ports { list: &latest_list, measure: &latest_measure });
     #[cfg(not(feature = "calls"))]
     None
+}
+
+fn list_port() -> Option<list::Port<'static>> {
+    list_ports().map(|p| p.list)
 }
 
 fn parts_ports() -> Option<parts::Ports<'static>> {
@@ -57,7 +67,7 @@ fn parts_ports() -> Option<parts::Ports<'static>> {
         part: &compare::port::part,
         open: &compare::port::open,
         call: &calls::port,
-        list: &latest_list,
+        list: list::Ports { list: &latest_list, measure: &latest_measure },
     });
     #[cfg(not(feature = "calls"))]
     None
@@ -66,12 +76,13 @@ fn parts_ports() -> Option<parts::Ports<'static>> {
 fn checkpoints_ports() -> Option<checkpoints::Ports<'static>> {
     #[cfg(feature = "calls")]
     {
-        use compare::port::calls::{list, Which};
+        use compare::port::calls::{list, measure, Which};
         return Some(checkpoints::Ports {
             numbers: &compare::port::checkpoints,
             open: &compare::port::open_at,
             call: &|image, xid, volume, call, out| calls::port_of(image, Which::at(xid, volume), call, out),
             list: &|image, xid, volume, out| list(image, Which::at(xid, volume), out),
+            measure: &|image, xid, volume, out| measure(image, Which::at(xid, volume), out),
         });
     }
     #[cfg(not(feature = "calls"))]
@@ -181,14 +192,14 @@ pub fn calls(seed: u64, count: u64) {
 
 pub fn list(seed: u64, count: u64) {
     answer::silence_panics();
-    let mut run = list::run::Run::over(seed, count, list_port());
+    let mut run = list::run::Run::over(seed, count, list_ports());
     if run.failure.is_none() {
-        run.edges(list_port());
+        run.edges(list_ports());
     }
     print!("seed {seed}, {count} sticks, {} images, {}", run.images, run.tally);
-    let mut good = saw_all(!run.report_failure(list_port(), Path::new("target")), run.tally.missing());
-    good &= vast(list_port().map(list::edges::vast));
-    finish("list", good, if list_port().is_some() { "all agree" } else { "the oracle alone was asked" });
+    let mut good = saw_all(!run.report_failure(list_ports(), Path::new("target")), run.tally.missing());
+    good &= vast(list_ports().map(list::edges::vast));
+    finish("list", good, if list_ports().is_some() { "all agree" } else { "the oracle alone was asked" });
 }
 
 pub fn pairs(seed: u64, count: u64) {
@@ -241,7 +252,7 @@ pub fn bench() {
     answer::silence_panics();
     print!("{}", bench::opening::run(port()));
     print!("{}", bench::calls::run(calls_port()));
-    print!("{}", bench::listing::run(list_port()));
+    print!("{}", bench::listing::run(list_ports()));
     print!("{}", bench::parts::run(parts_ports()));
     print!("{}", bench::checkpoints::run(checkpoints_ports()));
     print!("{}", bench::words::run(words_port()));

@@ -6,6 +6,7 @@
 use compare::calls::call::Call;
 use compare::calls::expected;
 use compare::image::Image;
+use compare::list;
 use compare::opening::answer::{self, Answer};
 use compare::pairs::by_oracle;
 use compare::parts::run::{vast, Run};
@@ -359,10 +360,12 @@ fn silence_overflows() {
     }));
 }
 
+const LISTS: list::Ports = list::Ports { list: &by_oracle::list, measure: &by_oracle::measure };
+
 fn run(m: Mistake) -> Run {
     silence_overflows();
     let told = |image: &[u8], out: &mut [u8]| part(image, out, m);
-    Run::over(7, ENOUGH, Some(Ports { part: &told, open: &open, call: &call, list: &by_oracle::list }))
+    Run::over(7, ENOUGH, Some(Ports { part: &told, open: &open, call: &call, list: LISTS }))
 }
 
 #[test]

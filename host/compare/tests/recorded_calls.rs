@@ -24,7 +24,8 @@ fn every_answer_is_the_oracles() {
 fn every_export_and_refusal_is_there() {
     let seen: BTreeSet<(&str, u8)> = recorded().iter().map(|r| (r.question.asked.name(), r.answer.0)).collect();
     let latest = ["open", "lookup", "read", "entry", "xattr", "link", "extent", "list", "replaced"];
-    for name in latest.into_iter().chain(["checkpoints", "open_at", "lookup_at", "read_at", "list_at", "wrong_words"]) {
+    let others = ["checkpoints", "open_at", "lookup_at", "read_at", "list_at", "wrong_words", "measure", "measure_at"];
+    for name in latest.into_iter().chain(others) {
         let known: &[u8] = match name {
             "checkpoints" => &[0, 1, 2, 3, 6, 8, 11],
             "open_at" => &[0, 1, 2, 3, 6, 8, 11, 13],
@@ -32,6 +33,8 @@ fn every_export_and_refusal_is_there() {
             "read_at" => &[0, 4, 13],
             "list_at" => &[0, 2, 6, 13],
             "wrong_words" => &[0, 6],
+            "measure" => &[0, 1, 2, 3, 4, 6, 8, 10, 11, 14],
+            "measure_at" => &[0, 4, 6, 13],
             "open" => &[0, 1, 2, 3, 4, 6, 8, 11, 12],
             "lookup" => &[0, 1, 2, 3, 4, 5, 6, 8, 9, 11, 12],
             "read" => &[0, 1, 2, 3, 4, 8],

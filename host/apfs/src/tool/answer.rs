@@ -34,7 +34,7 @@ pub fn bytes_from(mut length: usize, longest: usize, call: Call) -> Result<Vec<u
 }
 
 /// None where there is no such room.
-fn zeros(n: usize) -> Option<Vec<u8>> {
+pub fn zeros(n: usize) -> Option<Vec<u8>> {
     let mut out = Vec::new();
     out.try_reserve_exact(n).ok()?;
     out.resize(n, 0);

@@ -5,10 +5,11 @@ use std::ffi::OsStr;
 use apfs::calls::{self, Which};
 use apfs::refusal;
 
-use crate::tool::answer::{bytes, bytes_from, count, parsed, LONGEST};
+use crate::tool::answer::{bytes, bytes_from, count, parsed, zeros, LONGEST};
 use crate::tool::attribute::Attribute;
 use crate::tool::container::{Container, Volume};
 use crate::tool::failure::Failure;
+use crate::tool::measure::Measure;
 use crate::tool::name::{damaged, Name};
 use crate::tool::node::{Entry, Node};
 use crate::tool::shown::shown;
@@ -21,9 +22,8 @@ const NOT_FOUND: u64 = 4;
 const PATH_NOT_UTF8: u64 = 5;
 /// Each call for entries goes through the whole directory, so it has room for many.
 const ENTRIES: usize = 1 << 20;
-/// A listing of any image has so much room at least, and in a larger image's the image's so many times.
-const LISTING: usize = 1 << 30;
-const TIMES: usize = 8;
+/// An attribute has so much room at most.
+const ATTRIBUTE: usize = 1 << 30;
 
 pub struct Asked {
     pub stick: Stick,
@@ -100,7 +100,7 @@ impl Asked {
 
     /// The attribute at `place`, or none past the last; or the refusal's number.
     pub fn attribute(&self, id: u64, place: u64) -> Result<Result<Option<Attribute>, u64>, Failure> {
-        match bytes(LISTING, &|out| calls::xattr(self.image(), self.which(self.volume), id, place, out)) {
+        match bytes(ATTRIBUTE, &|out| calls::xattr(self.image(), self.which(self.volume), id, place, out)) {
             Err(n) => Ok(Err(n)),
             Ok(line) if line.is_empty() => Ok(Ok(None)),
             Ok(line) => {
@@ -112,7 +112,7 @@ impl Asked {
 
     /// The bytes of the attribute at `place`, or the refusal's number.
     pub fn attribute_bytes(&self, id: u64, place: u64) -> Result<Vec<u8>, u64> {
-        bytes(LISTING, &|out| calls::xattr_bytes(self.image(), self.which(self.volume), id, place, out))
+        bytes(ATTRIBUTE, &|out| calls::xattr_bytes(self.image(), self.which(self.volume), id, place, out))
     }
 
     /// How many bytes of the file came into `out`.
@@ -159,12 +159,25 @@ impl Asked {
         }
     }
 
-    /// The volume's listing.
-    pub fn list(&self) -> Result<Vec<u8>, Failure> {
+    /// How long the volume's listing will be, and how deep.
+    pub fn measure(&self) -> Result<Measure, Failure> {
         self.open_volume()?;
-        let longest = self.image().len().saturating_mul(TIMES).max(LISTING);
-        let text = bytes(longest, &|out| calls::list(self.image(), self.which(self.volume), out));
-        text.map_err(|n| self.refused(&format!("listing of volume {}", self.volume), n))
+        let what = format!("listing of volume {}", self.volume);
+        let line = bytes(LONGEST, &|out| calls::measure(self.image(), self.which(self.volume), out));
+        self.line(&what, &line.map_err(|n| self.refused(&what, n))?, Measure::parse)
+    }
+
+    /// The volume's listing, in as much room as it is measured to need.
+    pub fn list(&self) -> Result<Vec<u8>, Failure> {
+        let (what, length) = (format!("listing of volume {}", self.volume), self.measure()?.length);
+        let room = usize::try_from(length).ok().and_then(zeros);
+        let mut text = room.ok_or_else(|| {
+            let advice = "free some, or read the volume file by file";
+            Failure::Other(format!("{}: {what}: there is no memory for its {length} bytes; {advice}", self.place))
+        })?;
+        let n = count(calls::list(self.image(), self.which(self.volume), &mut text));
+        text.truncate(n.map_err(|n| self.refused(&what, n))?);
+        Ok(text)
     }
 }
 

@@ -1,12 +1,13 @@
 //! How to call it.
 
-const COMMANDS: [(&str, &str, &str); 8] = [
+const COMMANDS: [(&str, &str, &str); 9] = [
     ("sample", "FILE", "writes a small stick to try the others on"),
     ("ls", "IMAGE [PATH]", "what a directory holds: kind, size, name"),
     ("stat", "IMAGE [PATH]", "the container and its volumes; with a path, an inode's fields"),
     ("cat", "IMAGE PATH", "a file's bytes"),
     ("xattr", "IMAGE PATH [NAME]", "the attributes: flags, form, size, name; with a name, its bytes"),
     ("list", "IMAGE", "the listing of a whole volume"),
+    ("measure", "IMAGE", "how many bytes that listing has, and its greatest depth"),
     ("words", "IMAGE BLOCK", "of a block that fails its checksum, each place where one other word would mend it"),
     ("checkpoints", "IMAGE", "the transaction numbers of the checkpoints, one a line, the latest first"),
 ];

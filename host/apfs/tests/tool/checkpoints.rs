@@ -21,7 +21,7 @@ const REFUSED: &str =
     "no checkpoint has that number (refusal 13); `apfs checkpoints` shows the numbers that are there\n";
 
 /// Every command that takes a checkpoint, on the sample stick.
-const ASKED: [(&str, &[&str]); 9] = [
+const ASKED: [(&str, &[&str]); 10] = [
     ("ls", &[]),
     ("ls", &["rounds"]),
     ("ls", &["notes"]),
@@ -31,6 +31,7 @@ const ASKED: [(&str, &[&str]); 9] = [
     ("xattr", &["rounds/morning.log"]),
     ("xattr", &["rounds/morning.log", "recorder"]),
     ("list", &[]),
+    ("measure", &[]),
 ];
 
 /// The sample with two checkpoints, 99,999 and 100,000, which both lead to what it holds.

@@ -20,7 +20,7 @@ fn volumes(n: u64) -> Plan {
 fn a_short_file_is_named() {
     let image = Image::of("short", b"APFS?");
     let words = "apfs: FILE: the image ends too soon (refusal 1); copy the stick again, whole\n";
-    for command in ["ls", "stat", "list", "checkpoints"] {
+    for command in ["ls", "stat", "list", "measure", "checkpoints"] {
         assert_eq!(image.told(&[command], &[]), words);
     }
     assert_eq!(image.told(&["cat"], &["a"]), words);
@@ -48,7 +48,7 @@ fn a_volume_that_is_not_there_is_told_with_those_that_are() {
     let told = |n: u64, words: &str| {
         let image = Image::planned(&format!("volumes-{n}"), volumes(n));
         let want = format!("apfs: FILE: volume 7: there is no such volume (refusal 4); {words}\n");
-        for command in ["ls", "stat", "list"] {
+        for command in ["ls", "stat", "list", "measure"] {
             assert_eq!(image.told(&["--volume", "7", command], &[]), want);
         }
         assert_eq!(image.told(&["--volume", "7", "cat"], &["a"]), want);
@@ -121,6 +121,7 @@ fn wrong_arguments_are_told() {
     let options = "[--volume N] [--checkpoint N]";
     assert_eq!(image.usage(&["cat"], &[]), format!("usage: apfs cat IMAGE PATH {options}\n"));
     assert_eq!(image.usage(&["list"], &["path"]), format!("usage: apfs list IMAGE {options}\n"));
+    assert_eq!(image.usage(&["measure"], &["path"]), format!("usage: apfs measure IMAGE {options}\n"));
     assert_eq!(image.usage(&["ls"], &["a", "b"]), format!("usage: apfs ls IMAGE [PATH] {options}\n"));
     assert_eq!(image.usage(&["xattr"], &[]), format!("usage: apfs xattr IMAGE PATH [NAME] {options}\n"));
     assert_eq!(image.usage(&["sample"], &["b"]), "usage: apfs sample FILE\n");

@@ -6,6 +6,7 @@ mod checkpoints;
 mod damaged;
 mod errors;
 mod image;
+mod measure;
 mod partitioned;
 mod sample;
 mod totals;
@@ -95,7 +96,7 @@ fn a_path_of_any_bytes_is_handed_on() {
 }
 
 #[test]
-fn a_volume_is_listed_in_a_buffer_that_grows() {
+fn a_volume_is_listed_whole() {
     let (contents, bytes) = file();
     let text = out(Image::holding("list", contents).run(&["list"], &[]));
     let lines: Vec<&str> = text.lines().collect();

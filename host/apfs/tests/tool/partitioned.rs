@@ -21,7 +21,7 @@ fn both(name: &str) -> (Image, Image) {
 #[test]
 fn every_command_reads_the_partition() {
     let (bare, table) = both("commands");
-    let asked: [(&str, &[&str]); 8] = [
+    let asked: [(&str, &[&str]); 9] = [
         ("ls", &[]),
         ("ls", &["rounds"]),
         ("stat", &["rounds/meter.raw"]),
@@ -30,6 +30,7 @@ fn every_command_reads_the_partition() {
         ("xattr", &["rounds/morning.log"]),
         ("xattr", &["rounds/morning.log", "trace"]),
         ("list", &[]),
+        ("measure", &[]),
     ];
     for (command, path) in asked {
         let [a, b] = [&bare, &table].map(|image| image.run(&[command], path));

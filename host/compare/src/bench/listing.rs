@@ -1,5 +1,6 @@
 //! Listings of flat and nested volumes of several sizes, of a file with data, and of nodes with attributes.
-//! Both sides open the container and the volume for each listing.
+//! Both sides open the container and the volume for each listing. The Rust has no call that measures one: its measure
+//! stands beside the port's own listing.
 
 use std::hint::black_box;
 use std::sync::Arc;
@@ -9,10 +10,10 @@ use sticks::plan::large;
 use sticks::random::Random;
 use sticks::{make, Plan};
 
-use crate::bench::{line, Timed};
+use crate::bench::{beside, line, Timed};
 use crate::calls::directory::Rule;
 use crate::list::trace::{End, Trace};
-use crate::list::{walk, Port};
+use crate::list::{walk, Port, Ports};
 use crate::opening::answer::container;
 
 const ENTRIES: [u64; 3] = [10, 1000, 100_000];
@@ -43,16 +44,41 @@ fn volume(what: &str, contents: Contents, port: Option<Port>) -> String {
     line(&format!("listing of {what}"), &mut oracle, None, ours)
 }
 
-fn file(extents: u64, port: Option<Port>) -> String {
+/// In a buffer that it fills, and measured.
+fn measured(what: &str, contents: Contents, ports: Ports) -> String {
+    let image = make(Plan::with_contents(contents, 5)).image;
+    let (mut buffer, mut room) = (vec![0; ROOM], [0; 64]);
+    let length = (ports.list)(&image, 0, &mut buffer);
+    let n = (ports.measure)(&image, 0, &mut room);
+    let told = String::from_utf8_lossy(&room[..n.clamp(0, 64) as usize]).into_owned();
+    assert!(told.starts_with(&format!("(measure {length} ")), "{n}: {told}, of {length} bytes");
+    buffer.truncate(length as usize);
+    let mut list = || {
+        black_box((ports.list)(black_box(&image), 0, &mut buffer));
+    };
+    let mut measure = || {
+        black_box((ports.measure)(black_box(&image), 0, &mut room));
+    };
+    beside(&format!("measuring the listing of {what}"), ("listing", &mut list), ("measuring", &mut measure))
+}
+
+fn file(extents: u64) -> (String, Contents) {
     let contents = large::file(SIZE, extents, 4096, &mut Random::new(7));
-    volume(&format!("a file of 1 MiB in {extents:>4} extents"), contents, port)
+    (format!("a file of 1 MiB in {extents:>4} extents"), contents)
+}
+
+fn spread(n: u64, name: &str, depth: u64) -> (String, Contents) {
+    (format!("{n:>6} entries, {name:6}"), large::spread(n, depth))
 }
 
 /// Medians in lines of text; without a port, the oracle's alone.
-pub fn run(port: Option<Port>) -> String {
-    let volumes = DEPTHS.into_iter().flat_map(|(name, depth)| ENTRIES.map(|n| (n, name, depth)));
-    let spread =
-        volumes.map(|(n, name, depth)| volume(&format!("{n:>6} entries, {name:6}"), large::spread(n, depth), port));
-    let attributed = volume("  1000 nodes with attributes", large::attributed(1000), port);
-    spread.chain(EXTENTS.into_iter().map(|n| file(n, port))).chain([attributed]).collect()
+pub fn run(ports: Option<Ports>) -> String {
+    let volumes: Vec<_> = DEPTHS.into_iter().flat_map(|(name, depth)| ENTRIES.map(|n| (n, name, depth))).collect();
+    let attributed = ("  1000 nodes with attributes".to_string(), large::attributed(1000));
+    let all = volumes.iter().map(|(n, name, depth)| spread(*n, name, *depth)).chain(EXTENTS.map(file));
+    let listed = all.chain([attributed]).map(|(what, contents)| volume(&what, contents, ports.map(|p| p.list)));
+    let large = volumes.iter().filter(|v| v.0 > ENTRIES[0]).map(|(n, name, depth)| spread(*n, name, *depth));
+    let measured =
+        large.chain([file(EXTENTS[1])]).filter_map(|(what, contents)| Some(measured(&what, contents, ports?)));
+    listed.chain(measured).collect()
 }

@@ -69,3 +69,11 @@ fn line<'f>(what: &str, oracle: Timed<'f>, warm: Option<Timed<'f>>, ours: Option
     }
     out + "\n"
 }
+
+/// A line with the medians of two of the port's calls, the second's ratio to the first behind them.
+fn beside<'f>(what: &str, first: (&str, Timed<'f>), second: (&str, Timed<'f>)) -> String {
+    let medians = medians(&mut [first.1, second.1]);
+    let ratio = ratio(medians[1], medians[0]);
+    let times = format!("{} {:>10.2?}, {} {:>10.2?}", first.0, medians[0], second.0, medians[1]);
+    format!("{what}: {times}, {}/{} {ratio:.2}\n", second.0, first.0)
+}

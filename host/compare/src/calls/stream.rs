@@ -33,6 +33,14 @@ pub fn data(image: &[u8], c: &Container, v: &Volume, x: &Xattr) -> Result<Data, 
     }
 }
 
+/// How many bytes the attribute has.
+pub fn size(x: &Xattr) -> u64 {
+    match &x.data {
+        XattrData::Embedded(bytes) => bytes.len() as u64,
+        XattrData::Stream { size, .. } => *size,
+    }
+}
+
 /// The first bytes of a stream of `size` bytes, or the refusal's number.
 pub fn by_document(image: &[u8], bs: u64, count: u64, extents: &[Extent], size: u64) -> Result<Vec<u8>, u64> {
     let mut out = vec![0; size.min(PREFIX) as usize];

@@ -23,4 +23,5 @@ pub struct Ports<'p> {
     pub open: OpenAt<'p>,
     pub call: CallAt<'p>,
     pub list: ListAt<'p>,
+    pub measure: ListAt<'p>,
 }

@@ -252,16 +252,17 @@ impl Trial<'_> {
             self.tally.number(tally::OTHERWISE);
         }
         let ports = self.ports;
-        let at = |image: &[u8], volume: u64, out: &mut [u8]| ports.map_or(0, |p| (p.list)(image, xid, volume, out));
-        let port: Option<list::Port> = if ports.is_some() { Some(&at) } else { None };
+        let list = |image: &[u8], volume: u64, out: &mut [u8]| ports.map_or(0, |p| (p.list)(image, xid, volume, out));
+        let measure =
+            |image: &[u8], volume: u64, out: &mut [u8]| ports.map_or(0, |p| (p.measure)(image, xid, volume, out));
+        let at = ports.map(|_| list::Ports { list: &list, measure: &measure });
         let mut run = list::run::Run { tally: std::mem::take(&mut self.tally.list), ..Default::default() };
-        let checked = run.image(image, port, random);
+        let checked = run.image(image, at, random);
         self.tally.list = run.tally;
         checked.map_err(|(volume, m)| {
             // The sum tells texts apart that differ far behind what is shown of a line.
             let sum = crc32c(!0, &walk::of_image(image, volume).text);
-            let words = format!("{} and not {}: {}", m.got, m.want, m.words);
-            format!("listing of volume {volume}, of the sum {sum:08x}, into {} bytes: {words}", m.length)
+            format!("volume {volume}, of the sum {sum:08x}, {m}")
         })
     }
 }

@@ -60,7 +60,7 @@ impl Tally {
         lists.chain(refused).chain(numbers).chain(opening).chain(self.missing_calls()).collect()
     }
 
-    /// Each call, and the listing, is to be answered, and refused with 13.
+    /// Each call, the listing and its measure, is to be answered, and refused with 13.
     fn missing_calls(&self) -> Vec<String> {
         use calls::expected::Kind::{Added, Answered};
         let seen = |call: &str, is: &dyn Fn(&calls::expected::Kind) -> bool| {
@@ -69,7 +69,9 @@ impl Tally {
         let lacks = |call: &&str| !seen(call, &|k| matches!(k, Answered(_))) || !seen(call, &|k| *k == Added(13));
         let calls = calls::call::NAMES.into_iter().filter(lacks).map(String::from);
         let listed = self.list.answered > 0 && self.list.refused.contains_key(&13);
-        calls.chain((!listed).then(|| "list".to_string())).collect()
+        let measured = self.list.measures.got > 0 && self.list.measures.refused.contains_key(&13);
+        let whole = [(listed, "list"), (measured, "measure")].into_iter().filter(|k| !k.0).map(|k| k.1.to_string());
+        calls.chain(whole).collect()
     }
 }
 

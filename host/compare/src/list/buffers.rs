@@ -22,7 +22,8 @@ pub fn lengths(t: &Trace, r: &mut Random) -> Vec<usize> {
     };
     match t.end {
         End::More => all.retain(|&k| k < n),
-        End::Whole => all.extend(foot(&t.text, r)),
+        // None, the longest that is too short, the shortest that is not, and a longer one: as request 09 has them.
+        End::Whole => all.extend(foot(&t.text, r).into_iter().chain([0, n - 1, n, fits[2]])),
         _ => {}
     }
     all.sort();

@@ -1,5 +1,7 @@
 //! Holds the port's answer, and all of the buffer, against what is expected.
 
+use std::fmt;
+
 use crate::calls::check::{pattern, REFUSALS};
 use crate::list::trace::{End, Trace};
 use crate::list::Port;
@@ -7,13 +9,28 @@ use crate::list::Port;
 const SHOWN: usize = 400;
 const TOO_SHORT: i64 = -6;
 
+/// What was asked for.
+#[derive(Clone, Copy, Debug, PartialEq, Eq)]
+pub enum Of {
+    List,
+    Measure,
+}
+
 pub struct Mismatch {
+    pub of: Of,
     /// The buffer's length.
     pub length: usize,
     /// What must be answered: bytes, or minus the refusal's number.
     pub want: i64,
     pub got: i64,
     pub words: String,
+}
+
+impl fmt::Display for Mismatch {
+    fn fmt(&self, f: &mut fmt::Formatter) -> fmt::Result {
+        let of = if self.of == Of::List { "listing" } else { "measuring" };
+        write!(f, "{of} with a buffer of {} bytes: {} and not {}: {}", self.length, self.got, self.want, self.words)
+    }
 }
 
 pub struct Subject<'a> {
@@ -46,16 +63,16 @@ impl Subject<'_> {
             (End::Open(_), None) => got,
             (End::Panic(m), None) => {
                 let words = format!("the oracle panicked: {m}");
-                return Err(Mismatch { length: n, want: 0, got, words });
+                return Err(Mismatch { of: Of::List, length: n, want: 0, got, words });
             }
             (_, None) => t.text.len() as i64,
         };
         let well = REFUSALS.contains(&got) || (0..=n as i64).contains(&got);
         if got != want || !well {
             let words = self.apart(t, got, &buffer);
-            return Err(Mismatch { length: n, want, got, words });
+            return Err(Mismatch { of: Of::List, length: n, want, got, words });
         }
-        let wrong = |at: usize| Err(Mismatch { length: n, want, got, words: self.byte(t, at, &buffer) });
+        let wrong = |at: usize| Err(Mismatch { of: Of::List, length: n, want, got, words: self.byte(t, at, &buffer) });
         left(t, got, &buffer).map_or(Ok(()), wrong)
     }
 

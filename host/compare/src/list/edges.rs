@@ -8,7 +8,7 @@ use sticks::{make, Plan};
 use crate::calls::vast;
 use crate::list::check::Subject;
 use crate::list::trace::{End, Trace};
-use crate::list::Port;
+use crate::list::Ports;
 
 /// Depth below the root, and how often each directory is entered.
 const CHAINS: [(u64, u64); 9] = [(0, 1), (1, 3), (8, 2), (30, 2), (63, 1), (64, 1), (65, 1), (66, 1), (66, 2)];
@@ -61,14 +61,14 @@ fn file(holes: &[(u64, u64)], size: u64) -> Contents {
 }
 
 /// How many calls agreed on images about 2^34 bytes long.
-pub fn vast(port: Port) -> Result<Option<u64>, String> {
+pub fn vast(ports: Ports) -> Result<Option<u64>, String> {
     vast::over(&|image, number| {
-        let lengths = [0, 1, 300];
+        let (lengths, of) = ([0, 1, 300], |port| Subject { port, image, volume: 0 });
+        let trace = Trace::only(End::Refused(number));
         for n in lengths {
-            let subject = Subject { port, image, volume: 0 };
-            let checked = subject.check(&Trace::only(End::Refused(number)), n);
-            checked.map_err(|m| format!("an image of {} bytes: {} and not {}", image.len(), m.got, m.want))?;
+            let checked = of(ports.list).check(&trace, n).and_then(|()| of(ports.measure).measures(&trace.measured, n));
+            checked.map_err(|m| format!("an image of {} bytes, {m}", image.len()))?;
         }
-        Ok(lengths.len() as u64)
+        Ok(2 * lengths.len() as u64)
     })
 }

@@ -4,6 +4,7 @@ use std::collections::BTreeMap;
 use std::fmt;
 
 use crate::calls::directory::Account;
+use crate::list::measure::{Measured, MOST};
 use crate::list::totals::Totals;
 use crate::list::trace::{End, Trace};
 
@@ -31,10 +32,32 @@ pub struct Tally {
     pub totals: [(u64, u64); 3],
     /// Listings by whose account of directory keys, and whether they are whole.
     pub accounts: BTreeMap<(Account, bool), u64>,
+    pub measures: Measures,
+}
+
+/// What measures there were.
+#[derive(Clone, Debug, Default)]
+pub struct Measures {
+    /// Volumes that were measured.
+    pub got: u64,
+    /// Of these, the ones whose listing is longer than any buffer here.
+    pub past: u64,
+    pub longest: u64,
+    pub deepest: u64,
+    /// Volumes by the refusal of their measure.
+    pub refused: BTreeMap<u64, u64>,
+    /// Volumes that were not asked about, and those of which neither the oracle nor the papers tell.
+    pub others: BTreeMap<&'static str, u64>,
+    pub calls: u64,
+    /// Calls whose own line does not fit.
+    pub short: u64,
 }
 
 /// Refusals that a run must have seen.
 const WANTED: [u64; 8] = [1, 2, 3, 4, 6, 8, 10, 11];
+/// The same of measures.
+const WANTED_OF_MEASURES: [u64; 8] = [1, 2, 3, 4, 8, 10, 11, 14];
+const TOO_SHORT: u64 = 6;
 
 fn named(e: &End) -> String {
     match e {
@@ -88,7 +111,59 @@ impl Tally {
         let text = (self.deepest < 64).then(|| "a whole listing as deep as may be".to_string());
         let all = [Account::Rust, Account::Reference].into_iter().flat_map(|a| [(a, true), (a, false)]);
         let accounts = all.filter(|k| !self.accounts.contains_key(k)).map(accounted);
-        refusals.chain(depths).chain(text).chain(accounts).collect()
+        let measures = self.measures.missing();
+        refusals.chain(depths).chain(text).chain(accounts).chain(measures).collect()
+    }
+}
+
+impl Measures {
+    pub fn volume(&mut self, t: &Trace) {
+        match &t.measured {
+            Measured::Got(m) => {
+                self.got += 1;
+                self.past += u64::from(t.end != End::Whole);
+                self.longest = self.longest.max(m.length);
+                self.deepest = self.deepest.max(m.depth);
+            }
+            Measured::Refused(n) => *self.refused.entry(*n).or_default() += 1,
+            Measured::Open(why) => *self.others.entry(why).or_default() += 1,
+            Measured::Vast => *self.others.entry("too many nodes").or_default() += 1,
+        }
+    }
+
+    pub fn call(&mut self, refusal: Option<u64>) {
+        self.calls += 1;
+        self.short += u64::from(refusal == Some(TOO_SHORT));
+    }
+
+    fn missing(&self) -> Vec<String> {
+        let lacks = WANTED_OF_MEASURES.iter().filter(|n| !self.refused.contains_key(n));
+        let refused = lacks.map(|n| format!("a measure refused with {n}"));
+        let others = [
+            (self.got == 0, "a measure"),
+            (self.past == 0, "a measure of a listing longer than any buffer here"),
+            (self.longest < MOST, "a measure of a listing as long as may be"),
+            (self.deepest < 64, "a measure of a listing as deep as may be"),
+            (self.short == 0, "a measure whose own line does not fit"),
+        ];
+        refused.chain(others.iter().filter(|k| k.0).map(|k| k.1.to_string())).collect()
+    }
+}
+
+impl fmt::Display for Measures {
+    fn fmt(&self, f: &mut fmt::Formatter) -> fmt::Result {
+        writeln!(
+            f,
+            "measures: {} told, {} of listings longer than any buffer here, the longest {}, the deepest {}; {} calls, {} \
+             without room for the line",
+            self.got, self.past, self.longest, self.deepest, self.calls, self.short
+        )?;
+        writeln!(
+            f,
+            "measures refused, by number: {}; not asked or not known: {}",
+            pairs(&self.refused),
+            pairs(&self.others)
+        )
     }
 }
 
@@ -113,6 +188,7 @@ impl fmt::Display for Tally {
         )?;
         let [nodes, bytes, attributes] = self.totals.map(|(all, most)| format!("{all}, at most {most}"));
         writeln!(f, "totals of whole listings: nodes {nodes}; bytes {bytes}; attributes {attributes}")?;
-        writeln!(f, "listings by depth: {}; deepest whole one {}", pairs(&self.depths), self.deepest)
+        writeln!(f, "listings by depth: {}; deepest whole one {}", pairs(&self.depths), self.deepest)?;
+        write!(f, "{}", self.measures)
     }
 }

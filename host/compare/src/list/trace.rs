@@ -1,6 +1,7 @@
 //! The lines of a listing, as far as they are read, and how it ends.
 
 use crate::calls::directory::Account;
+use crate::list::measure::{counted, Measured};
 
 /// Longer texts are not followed to their end, and no buffer is as long.
 pub const LONGEST: usize = 1 << 20;
@@ -32,11 +33,14 @@ pub struct Trace {
     /// Of the directories that were read.
     pub account: Account,
     pub end: End,
+    /// Of the whole listing, however long.
+    pub measured: Measured,
 }
 
 impl Trace {
     pub fn only(end: End) -> Trace {
-        Trace { text: Vec::new(), depth: None, weight: 0, account: Account::None, end }
+        let measured = Measured::by(&end, counted(b""));
+        Trace { text: Vec::new(), depth: None, weight: 0, account: Account::None, end, measured }
     }
 
     /// The refusal's number for a buffer of `n` bytes, or none where the text is answered.

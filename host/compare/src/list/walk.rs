@@ -1,5 +1,5 @@
 //! A listing rebuilt from the oracle's calls, and where it reads directory keys otherwise from the host's account of
-//! them, in document 01's order.
+//! them, in document 01's order; or its length and depth alone.
 
 use oracle::fs::{Inode, Volume};
 use oracle::nx::Container;
@@ -10,6 +10,7 @@ use crate::calls::expected::Stop;
 use crate::calls::{line, stream};
 use crate::image::Image;
 use crate::list::file;
+use crate::list::measure::{Measure, Measured, MOST, TOO_LONG};
 use crate::list::trace::{End, Trace, LONGEST};
 use crate::opening::answer::{self, caught};
 use crate::opening::outside::outside;
@@ -18,6 +19,8 @@ const ROOT: u64 = 2;
 const DEEPEST: u64 = 64;
 const OVERFLOW: u64 = 8;
 const TOO_DEEP: u64 = 10;
+/// No more are walked through to measure.
+const NODES: u64 = 1 << 15;
 
 /// Why no more lines follow.
 enum Halt {
@@ -88,11 +91,21 @@ pub fn with_room(part: &[u8], c: &Container, volume: u64, room: usize, rule: Rul
         Err(a) => return Trace::only(stopped(a, true)),
     };
     let dirs = Directories::of(&v, rule);
-    let shown = Shown::default();
-    let mut walk = Walk { part, c, v: &v, dirs: &dirs, room, text: Vec::new(), depth: None, weight: 0, shown };
-    let walked = caught(|| walk.volume());
-    let end = walked.map_or_else(|a| stopped(a, true), End::from);
-    Trace { text: walk.text, depth: walk.depth, weight: walk.weight, account: dirs.account(), end }
+    let mut walk = Walk::new(part, c, &dirs, Some(room));
+    let end = walk.end();
+    let account = dirs.take_account();
+    let measured = match end {
+        End::More | End::LongLine => gauged(part, c, &dirs),
+        _ => Measured::by(&end, walk.measure()),
+    };
+    Trace { text: walk.text, depth: walk.depth, weight: walk.weight, account, end, measured }
+}
+
+/// Of a listing that is not followed to its end: the same walk, but that its lines are only counted.
+fn gauged(part: &[u8], c: &Container, dirs: &Directories) -> Measured {
+    let mut walk = Walk::new(part, c, dirs, None);
+    let end = walk.end();
+    Measured::by(&end, walk.measure())
 }
 
 /// What the lines so far show.
@@ -108,18 +121,51 @@ struct Walk<'w> {
     c: &'w Container,
     v: &'w Volume<'w>,
     dirs: &'w Directories<'w>,
-    room: usize,
+    /// None where no text is kept.
+    room: Option<usize>,
     text: Vec<u8>,
+    length: u64,
     depth: Option<u64>,
     weight: u64,
     shown: Shown,
 }
 
-impl Walk<'_> {
+impl<'w> Walk<'w> {
+    fn new(part: &'w [u8], c: &'w Container, dirs: &'w Directories<'w>, room: Option<usize>) -> Walk<'w> {
+        let (text, shown) = (Vec::new(), Shown::default());
+        Walk { part, c, v: dirs.v, dirs, room, text, length: 0, depth: None, weight: 0, shown }
+    }
+
+    fn end(&mut self) -> End {
+        caught(|| self.volume()).map_or_else(|a| stopped(a, true), End::from)
+    }
+
+    fn measure(&self) -> Measure {
+        Measure { length: self.length, depth: self.depth.unwrap_or(0) }
+    }
+
     fn line(&mut self, line: &str) -> Walked {
+        self.count(line.len() as u64)?;
+        let Some(room) = self.room else { return Ok(()) };
         self.text.extend(line.bytes());
-        if self.text.len() > self.room {
+        if self.text.len() > room {
             return Err(Halt::More);
+        }
+        Ok(())
+    }
+
+    /// A line that has this and so many bytes in hexadecimal.
+    fn long(&mut self, rest: &str, bytes: u64) -> Walked {
+        if self.room.is_some() {
+            return Err(Halt::LongLine);
+        }
+        self.count(bytes.saturating_mul(2).saturating_add(rest.len() as u64))
+    }
+
+    fn count(&mut self, n: u64) -> Walked {
+        self.length = self.length.saturating_add(n);
+        if self.length > MOST {
+            return Err(Stop::Added(TOO_LONG).into());
         }
         Ok(())
     }
@@ -141,6 +187,9 @@ impl Walk<'_> {
         let inode = if depth == 0 { self.v.root() } else { self.v.inode(id) }?;
         self.line(&line::node(&inode))?;
         self.shown.nodes += 1;
+        if self.room.is_none() && self.shown.nodes > NODES {
+            return Err(Halt::More);
+        }
         self.depth = self.depth.max(Some(depth));
         self.weight += u64::from(self.c.block_size());
         let attributes = self.v.xattrs(id)?;
@@ -148,7 +197,7 @@ impl Walk<'_> {
         for x in &attributes {
             match stream::data(self.part, self.c, self.v, x)? {
                 stream::Data::Whole(data) => self.line(&line::attribute(x, &data))?,
-                stream::Data::Long(_) => return Err(Halt::LongLine),
+                stream::Data::Long(_) => self.long(&line::attribute(x, &[]), stream::size(x))?,
             }
             self.shown.attributes += 1;
         }
@@ -165,8 +214,16 @@ impl Walk<'_> {
         if inode.is_compressed() {
             return self.line("(packed)\n");
         }
-        let bytes = file::contents(self.part, self.c, self.v, inode)?.ok_or(Halt::LongLine)?;
-        self.shown.bytes += bytes.len() as u64;
-        self.line(&format!("(data {})\n", line::hex(&bytes)))
+        match file::contents(self.part, self.c, self.v, inode)? {
+            Some(bytes) => {
+                self.shown.bytes += bytes.len() as u64;
+                self.line(&format!("(data {})\n", line::hex(&bytes)))
+            }
+            None => {
+                let size = inode.dstream.map_or(0, |d| d.size);
+                self.shown.bytes = self.shown.bytes.saturating_add(size);
+                self.long("(data x)\n", size)
+            }
+        }
     }
 }

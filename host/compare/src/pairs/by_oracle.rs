@@ -3,6 +3,7 @@
 use crate::calls::call::Call;
 use crate::calls::expected::{self, Answer};
 use crate::image::Image;
+use crate::list::measure::Measured;
 use crate::list::walk;
 
 fn refused(out: &mut [u8], number: u64, wiped: bool) -> i64 {
@@ -31,5 +32,21 @@ pub fn call(image: &[u8], volume: u64, call: &Call, out: &mut [u8]) -> i64 {
         Answer::Bytes(b) => fill(out, &b),
         Answer::Refused(number) => refused(out, number, false),
         other => panic!("{call}: {other:?}"),
+    }
+}
+
+pub fn measure(image: &[u8], volume: u64, out: &mut [u8]) -> i64 {
+    measure_of(&Image::of(image.to_vec()), volume, out)
+}
+
+/// Of an image whose part is known.
+pub fn measure_of(image: &Image, volume: u64, out: &mut [u8]) -> i64 {
+    match walk::of_image(image, volume).measured {
+        Measured::Got(m) => match m.to_string() {
+            line if line.len() > out.len() => refused(out, 6, false),
+            line => fill(out, line.as_bytes()),
+        },
+        Measured::Refused(number) => refused(out, number, false),
+        Measured::Open(_) | Measured::Vast => refused(out, 8, false),
     }
 }

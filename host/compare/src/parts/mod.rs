@@ -14,5 +14,5 @@ pub struct Ports<'p> {
     pub part: Open<'p>,
     pub open: Open<'p>,
     pub call: calls::Port<'p>,
-    pub list: list::Port<'p>,
+    pub list: list::Ports<'p>,
 }

@@ -189,8 +189,6 @@ impl Trial<'_> {
         let mut run = list::run::Run { tally: std::mem::take(&mut self.tally.list), ..Default::default() };
         let checked = run.image(self.image, self.ports.map(|p| p.list), self.random.fork());
         self.tally.list = run.tally;
-        checked.map_err(|(volume, m)| {
-            format!("listing of volume {volume} into {} bytes: {} and not {}: {}", m.length, m.got, m.want, m.words)
-        })
+        checked.map_err(|(volume, m)| format!("volume {volume}, {m}"))
     }
 }

@@ -50,7 +50,7 @@ impl Tally {
         kinds.chain(parts).chain(own).chain(opening).chain(self.missing_calls()).collect()
     }
 
-    /// Each call, and the listing, is to be answered, and refused for the table and for its entries.
+    /// Each call, the listing and its measure, is to be answered, and refused for the table and for its entries.
     fn missing_calls(&self) -> Vec<String> {
         use calls::expected::Kind::{Added, Answered};
         let seen = |call: &str, is: &dyn Fn(&calls::expected::Kind) -> bool| {
@@ -61,7 +61,10 @@ impl Tally {
         };
         let calls = calls::call::NAMES.into_iter().filter(lacks).map(String::from);
         let listed = self.list.answered > 0 && [4, 11, 12].iter().all(|n| self.list.refused.contains_key(n));
-        calls.chain((!listed).then(|| "list".to_string())).chain(self.missing_accounts()).collect()
+        let m = &self.list.measures;
+        let measured = m.got > 0 && [4, 11, 12].iter().all(|n| m.refused.contains_key(n));
+        let whole = [(listed, "list"), (measured, "measure")].into_iter().filter(|k| !k.0).map(|k| k.1.to_string());
+        calls.chain(whole).chain(self.missing_accounts()).collect()
     }
 
     /// Some calls are to read directories by the reference, answered and refused.

@@ -7,6 +7,7 @@ use crate::calls::directory::{Account, Rule};
 use crate::calls::expected::{self, Answer};
 use crate::checkpoints::spoiled::{self, image_at};
 use crate::image::Image;
+use crate::list::measure::Measured;
 use crate::list::trace::End;
 use crate::list::walk;
 use crate::opening::answer;
@@ -24,6 +25,7 @@ pub enum Asked {
     Open,
     Call(Call),
     List,
+    Measure,
     /// The numbers of the checkpoints.
     Checkpoints,
     /// The same at the checkpoint of a number.
@@ -52,6 +54,7 @@ impl Asked {
             Asked::Open => "open",
             Asked::Call(call) => call.name(),
             Asked::List => "list",
+            Asked::Measure => "measure",
             Asked::Checkpoints => "checkpoints",
             Asked::WrongWords(_) => "wrong_words",
             Asked::At(_, asked) => match asked.name() {
@@ -59,6 +62,7 @@ impl Asked {
                 "lookup" => "lookup_at",
                 "read" => "read_at",
                 "list" => "list_at",
+                "measure" => "measure_at",
                 name => unreachable!("{name} is not recorded at a checkpoint"),
             },
         }
@@ -121,6 +125,7 @@ pub fn told_by(rule: Rule, image: &Image, q: &Question) -> Option<Told> {
             Answer::Any | Answer::Panic(_) => None,
         },
         Asked::List => list(rule, image, q.volume, q.room),
+        Asked::Measure => measure(rule, image, q.volume, q.room),
         Asked::Checkpoints => numbers(image, q.room),
         Asked::WrongWords(object) => Some(within(words::bytes(&words::account::mends(object)), q.room)),
         Asked::At(xid, asked) => told_by(rule, &image_at(image, *xid, 1), &Question { asked: (**asked).clone(), ..*q }),
@@ -132,7 +137,7 @@ pub fn account(rule: Rule, image: &Image, q: &Question) -> Account {
     match &q.asked {
         Asked::Open | Asked::Checkpoints | Asked::WrongWords(_) => Account::None,
         Asked::Call(call) => expected::told_by(rule, image, q.volume, call).account,
-        Asked::List => walk::told_by(rule, image, q.volume).account,
+        Asked::List | Asked::Measure => walk::told_by(rule, image, q.volume).account,
         Asked::At(xid, asked) => account(rule, &image_at(image, *xid, 1), &Question { asked: (**asked).clone(), ..*q }),
     }
 }
@@ -166,5 +171,13 @@ fn list(rule: Rule, image: &Image, volume: u64, room: usize) -> Option<Told> {
         (Some(n), _) => Some(Told::Refused(n)),
         (None, End::Whole) => Some(Told::Bytes(trace.text)),
         _ => None,
+    }
+}
+
+fn measure(rule: Rule, image: &Image, volume: u64, room: usize) -> Option<Told> {
+    match walk::told_by(rule, image, volume).measured {
+        Measured::Got(m) => Some(within(m.to_string().into_bytes(), room)),
+        Measured::Refused(n) => Some(Told::Refused(n)),
+        Measured::Open(_) | Measured::Vast => None,
     }
 }

@@ -101,6 +101,7 @@ fn coded(asked: &Asked) -> Option<(u8, u64, u64, Vec<u8>)> {
         Asked::Checkpoints => (12, 0, 0, none),
         Asked::At(xid, asked) => return coded_at(*xid, asked),
         Asked::WrongWords(object) => (17, 0, 0, object.clone()),
+        Asked::Measure => (18, 0, 0, none),
         Asked::Call(Call::Entries { .. } | Call::XattrBytes { .. }) => return None,
     })
 }
@@ -112,6 +113,7 @@ fn coded_at(xid: u64, asked: &Asked) -> Option<(u8, u64, u64, Vec<u8>)> {
         Asked::Call(Call::Lookup { path }) => (14, xid, 0, path.clone()),
         Asked::List => (15, xid, 0, Vec::new()),
         Asked::Call(Call::Read { id, offset, .. }) => (16, *id, *offset, xid.to_le_bytes().to_vec()),
+        Asked::Measure => (19, xid, 0, Vec::new()),
         _ => return None,
     })
 }

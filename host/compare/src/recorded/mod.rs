@@ -1,5 +1,5 @@
 //! A file of calls on sticks with their answers, for replay without any Rust (`crates/cases`): document 01's cases, a
-//! sample of calls on drawn sticks, and the cases of requests 02, 03, 04, 13 and 08. An answer is the oracle's, or the
+//! sample of calls on drawn sticks, and the cases of requests 02, 03, 04, 13, 08 and 09. An answer is the oracle's, or the
 //! papers' where the oracle can't tell; never the port's.
 
 pub mod asked;
@@ -20,5 +20,6 @@ pub fn recorded(seed: u64) -> Result<Vec<u8>, String> {
     stated::write(stated::of_checkpoints(), &mut file)?;
     stated::write(stated::of_words(), &mut file)?;
     stated::write(stated::of_totals(), &mut file)?;
+    stated::write(stated::of_measures(), &mut file)?;
     Ok(file.finish())
 }

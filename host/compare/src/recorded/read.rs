@@ -72,6 +72,8 @@ fn asked(op: u8, a: u64, b: u64, room: usize, input: &[u8]) -> Result<Asked, Str
         15 => Asked::At(a, Box::new(Asked::List)),
         16 => Asked::At(eight(input)?, Box::new(Asked::Call(Call::Read { id: a, offset: b, length: room }))),
         17 => Asked::WrongWords(input.to_vec()),
+        18 => Asked::Measure,
+        19 => Asked::At(a, Box::new(Asked::Measure)),
         _ => return Err(format!("no op {op}")),
     })
 }

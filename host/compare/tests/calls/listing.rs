@@ -6,20 +6,26 @@ use std::sync::Arc;
 use compare::image::Image;
 use compare::list::run::Run;
 use compare::list::trace::{End, Trace};
-use compare::list::{edges, walk};
+use compare::list::{edges, walk, Port, Ports};
 use sticks::contents::{Contents, File, Inode};
 use sticks::{make, Plan};
 
 use crate::stand::list::{answer, Slip, ALL};
+use crate::stand::measure;
 
 const ENOUGH: u64 = 150;
 
+/// The measure has no slip.
+fn ports(list: Port) -> Ports {
+    Ports { list, measure: &|image, volume, out| measure::answer(image, volume, out, measure::Slip::None) }
+}
+
 fn run(slip: Slip) -> Run {
     crate::silence_overflows();
-    let port = |image: &[u8], volume: u64, out: &mut [u8]| answer(image, volume, out, slip);
-    let mut run = Run::over(5, ENOUGH, Some(&port));
+    let list = |image: &[u8], volume: u64, out: &mut [u8]| answer(image, volume, out, slip);
+    let mut run = Run::over(5, ENOUGH, Some(ports(&list)));
     if run.failure.is_none() {
-        run.edges(Some(&port));
+        run.edges(Some(ports(&list)));
     }
     run
 }
@@ -45,7 +51,7 @@ fn a_failure_is_told_with_a_smaller_image() {
         let run = run(slip);
         let f = run.failure.as_ref().expect("a failure");
         let file = folder.join(format!("list-{}-{}-{}.img", f.seed, f.stick, f.damage));
-        assert!(run.report_failure(Some(&|image, volume, out| answer(image, volume, out, slip)), folder));
+        assert!(run.report_failure(Some(ports(&|image, volume, out| answer(image, volume, out, slip))), folder));
         let small = std::fs::read(&file).expect("an image");
         assert!(small.len() <= f.image.len() && small != **f.image);
         std::fs::remove_file(file).expect("no more image");
@@ -98,8 +104,10 @@ fn a_vast_image_is_told_from_one_at_the_bound() {
         -number
     };
     let right = |image: &[u8], _: u64, out: &mut [u8]| wiped(out, if image.len() > 1 << 34 { 7 } else { 11 });
-    let Some(agreed) = edges::vast(&right).expect("no mistake") else { return };
-    assert!(agreed > 3);
-    assert!(edges::vast(&|_, _, out| wiped(out, 11)).is_err());
-    assert!(edges::vast(&|image, _, _| if image.len() > 1 << 34 { -7 } else { -11 }).is_err());
+    let unwiped = |image: &[u8], _: u64, _: &mut [u8]| if image.len() > 1 << 34 { -7 } else { -11 };
+    let of = |list: Port| edges::vast(Ports { list, measure: &unwiped });
+    let Some(agreed) = of(&right).expect("no mistake") else { return };
+    assert!(agreed > 6);
+    assert!(of(&|_, _, out| wiped(out, 11)).is_err());
+    assert!(of(&unwiped).is_err());
 }

@@ -6,6 +6,7 @@
 mod directories;
 mod lines;
 mod listing;
+mod measure;
 mod numbers;
 mod recorded;
 mod stand;

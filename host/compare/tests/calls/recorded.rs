@@ -5,6 +5,7 @@ use compare::recorded::asked::Asked;
 use compare::recorded::read::{of_cases, Recorded};
 
 use crate::stand::list::{self, Slip};
+use crate::stand::measure;
 use crate::stand::mistake::{self, Mistake};
 use crate::stand::{answer, Last};
 
@@ -18,6 +19,7 @@ fn differ(records: &[Recorded], m: Mistake, slip: Slip) -> usize {
             Asked::Open | Asked::Checkpoints | Asked::At(..) | Asked::WrongWords(_) => return true,
             Asked::Call(call) => answer(&last, &r.image, q.volume, call, &mut out, m),
             Asked::List => list::answer(&r.image, q.volume, &mut out, slip),
+            Asked::Measure => return true,
         };
         r.holds(got, &out)
     };
@@ -32,5 +34,24 @@ fn every_mistake_is_found() {
         mistake::RECORDED.into_iter().filter(|&m| differ(&records, m, Slip::None) == 0).collect();
     assert_eq!(missed, []);
     let missed: Vec<Slip> = list::ALL.into_iter().filter(|&s| differ(&records, Mistake::None, s) == 0).collect();
+    assert_eq!(missed, []);
+}
+
+/// Whether a stand-in measures as is recorded.
+fn measures(records: &[Recorded], slip: measure::Slip) -> bool {
+    crate::silence_overflows();
+    let agrees = |r: &Recorded| {
+        let mut out = pattern(r.question.room);
+        let got = measure::answer(&r.image, r.question.volume, &mut out, slip);
+        r.holds(got, &out)
+    };
+    records.iter().filter(|r| r.question.asked == Asked::Measure).all(agrees)
+}
+
+#[test]
+fn every_slip_in_measures_is_found() {
+    let records = of_cases().expect("a whole file");
+    assert!(measures(&records, measure::Slip::None));
+    let missed: Vec<measure::Slip> = measure::ALL.into_iter().filter(|&s| measures(&records, s)).collect();
     assert_eq!(missed, []);
 }

@@ -8,6 +8,7 @@ use compare::checkpoints::spoiled::image_at;
 use compare::checkpoints::Ports;
 use compare::image::Image;
 use compare::list::walk;
+use compare::pairs::by_oracle;
 use compare::recorded::asked::Asked;
 use compare::recorded::read::{of_cases, Recorded};
 use sticks::block::get64;
@@ -41,12 +42,13 @@ enum Slip {
     LatestOpened,
     LatestCalled,
     LatestListed,
+    LatestMeasured,
     LowHalf,
 }
 
 use Slip as S;
 
-const ALL: [Slip; 23] = [
+const ALL: [Slip; 24] = [
     S::Ascending,
     S::RingOrder,
     S::RepeatsDropped,
@@ -69,6 +71,7 @@ const ALL: [Slip; 23] = [
     S::LatestOpened,
     S::LatestCalled,
     S::LatestListed,
+    S::LatestMeasured,
     S::LowHalf,
 ];
 
@@ -190,6 +193,12 @@ fn list_at(image: &[u8], x: u64, volume: u64, out: &mut [u8], slip: Slip) -> i64
     }
 }
 
+fn measure_at(image: &[u8], x: u64, volume: u64, out: &mut [u8], slip: Slip) -> i64 {
+    let image = Image::of(image.to_vec());
+    let at = if slip == S::LatestMeasured { image } else { image_at(&image, x, 1) };
+    by_oracle::measure_of(&at, volume, out)
+}
+
 fn run(slip: Slip, count: u64) -> Run {
     crate::silence_overflows();
     let ports = Ports {
@@ -197,6 +206,7 @@ fn run(slip: Slip, count: u64) -> Run {
         open: &|image, x, out| apfs_open_at(image, x, out, slip),
         call: &|image, x, volume, call, out| call_at(image, x, volume, call, out, slip),
         list: &|image, x, volume, out| list_at(image, x, volume, out, slip),
+        measure: &|image, x, volume, out| measure_at(image, x, volume, out, slip),
     };
     Run::over(3, count, Some(ports))
 }
@@ -220,6 +230,7 @@ fn agrees(r: &Recorded, slip: Slip) -> bool {
         Asked::At(x, asked) => match &**asked {
             Asked::Open => apfs_open_at(&r.image, *x, &mut out, slip),
             Asked::Call(call) => call_at(&r.image, *x, volume, call, &mut out, slip),
+            Asked::Measure => measure_at(&r.image, *x, volume, &mut out, slip),
             _ => list_at(&r.image, *x, volume, &mut out, slip),
         },
         _ => return true,

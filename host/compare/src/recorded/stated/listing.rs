@@ -26,7 +26,7 @@ fn node(id: u64) -> String {
 }
 
 /// Directories one in the other, `depth` of them below the root, and the listing of what is above the last.
-fn chain(depth: u64) -> Contents {
+pub fn chain(depth: u64) -> Contents {
     let id = |i: u64| if i == 0 { ROOT } else { 15 + i };
     let one = |i: u64| {
         let next = [("n", id(i + 1))];
@@ -35,7 +35,7 @@ fn chain(depth: u64) -> Contents {
     contents((0..=depth).map(one).collect())
 }
 
-fn chain_text(depth: u64) -> String {
+pub fn chain_text(depth: u64) -> String {
     let mut text = format!("(volume 1 0 x41\n{ROOT_LINE}(data x)\n");
     for i in 1..=depth {
         text += &format!("(entry {0} 3 8 x6e\n{1}(data x)\n", 15 + i, node(15 + i));

@@ -1,9 +1,10 @@
-//! Document 01's cases and those of partition tables, patched names, directory keys, checkpoints, wrong words and a
-//! listing's totals, each with what the papers say of it, and small sticks that show them.
+//! Document 01's cases and those of partition tables, patched names, directory keys, checkpoints, wrong words, a
+//! listing's totals and its measure, each with what the papers say of it, and small sticks that show them.
 
 mod checkpoints;
 mod keys;
 mod listing;
+mod measure;
 mod names;
 mod opening;
 mod paths;
@@ -57,6 +58,10 @@ impl Stated {
 
     pub fn list(room: usize, said: Said) -> Stated {
         Stated::new(Asked::List, room, said)
+    }
+
+    pub fn measure(said: Said) -> Stated {
+        Stated::new(Asked::Measure, ROOM, said)
     }
 
     pub fn lookup(path: impl Into<Vec<u8>>, said: Said) -> Stated {
@@ -148,6 +153,11 @@ pub fn of_words() -> Vec<Group> {
 /// Those of request 08.
 pub fn of_totals() -> Vec<Group> {
     totals::groups()
+}
+
+/// Those of request 09.
+pub fn of_measures() -> Vec<Group> {
+    measure::groups()
 }
 
 /// An error tells each case that the oracle answers otherwise.

@@ -2,6 +2,7 @@
 
 mod files;
 pub mod list;
+pub mod measure;
 pub mod mistake;
 mod names;
 mod paths;
