@@ -48,15 +48,25 @@ fn write_zeros(out: &mut [u8], room: usize, p: Position, n: u64) -> Position
     q
 }
 
-// Zeros that pass the room are refused before one is written: a size may lie far past any buffer.
+// Zeros that pass the room are refused before one is written, and past the buffer's end none is: a size may lie far past
+// any buffer.
 fn put_zeros(out: &mut [u8], room: usize, p: Position, n: u64) -> Position
     ensures { λ r. ⌜ outputOf r (now (out .exit)) ≡ puts room (pairs (replicate n 0) []) (outputOf p (now (out .entry))) ⌝ }
 {
     match p {
         Position::No(e) => Position::No(e),
-        Position::At(_) => {
+        Position::At(at) => {
             if room as u64 / 2 < n {
                 return Position::No(Refusal::BufferTooShort);
+            }
+            if room < at {
+                return write_zeros(out, room, p, n);
+            }
+            if (room - at) / 2 < n as usize {
+                return Position::No(Refusal::BufferTooShort);
+            }
+            if out.len() <= at {
+                return Position::At(at + 2 * n as usize);
             }
             write_zeros(out, room, p, n)
         }
