@@ -6,6 +6,7 @@ use sticks::random::Random;
 
 use crate::calls::check::pattern;
 use crate::list::check::{Mismatch, Of, Subject};
+use crate::list::totals;
 use crate::list::trace::{End, Trace};
 
 /// A longer listing is not measured.
@@ -16,6 +17,8 @@ const TOO_SHORT: i64 = -6;
 const REFUSALS: std::ops::RangeInclusive<i64> = -(TOO_LONG as i64)..=-1;
 /// Longer than any line.
 const ROOM: usize = 64;
+/// Longer listings are not asked for, however much room they are measured to need.
+const LISTED: u64 = 1 << 23;
 /// Of a volume whose reading takes longer, fewer buffers are tried.
 const HEAVY: u64 = 1 << 17;
 
@@ -108,7 +111,32 @@ pub fn rooms(t: &Trace, r: &mut Random) -> Vec<usize> {
     }
 }
 
+/// Whether a listing that is not followed to its end is short enough to be asked for.
+pub fn listed(t: &Trace) -> Option<Measure> {
+    match t.measured {
+        Measured::Got(m) if t.end != End::Whole && m.length <= LISTED => Some(m),
+        _ => None,
+    }
+}
+
 impl Subject<'_> {
+    /// Of a port that lists, and a text that is longer than those followed here: with as much room as it is measured to
+    /// need, and a byte less. By its own totals and brackets it must be whole.
+    pub fn fits(&self, t: &Trace, m: Measure) -> Result<(), Mismatch> {
+        let n = m.length as usize;
+        for (room, want) in [(n, n as i64), (n - 1, TOO_SHORT)] {
+            let mut buffer = vec![b'?'; room];
+            let got = (self.port)(self.image, self.volume, &mut buffer);
+            let whole = || buffer.starts_with(&t.text) && counted(&buffer) == m && totals::held(&buffer).is_ok();
+            let well = if want < 0 { buffer.iter().all(|&b| b == 0) } else { whole() };
+            if got != want || !well {
+                let words = "a text that is not whole, or not wiped".into();
+                return Err(Mismatch { of: Of::List, length: room, want, got, words });
+            }
+        }
+        Ok(())
+    }
+
     /// Of a port that measures, with a buffer of `room` bytes. A refusal leaves it as it was, and so is all behind the line.
     pub fn measures(&self, want: &Measured, room: usize) -> Result<(), Mismatch> {
         let mut buffer = pattern(room);

@@ -191,6 +191,10 @@ impl Trial<'_> {
 
     fn measure(&mut self, volume: u64, t: &Trace) -> Result<(), Mismatch> {
         self.tally.measures.volume(t);
+        if let Some(m) = measure::listed(t) {
+            self.tally.measures.listed += 1;
+            self.ports.map_or(Ok(()), |ports| subjects(ports, self.image, volume).0.fits(t, m))?;
+        }
         for n in measure::rooms(t, &mut self.random) {
             self.tally.measures.call(t.measured.refusal(n));
             let checked = self.ports.map(|ports| subjects(ports, self.image, volume).1.measures(&t.measured, n));

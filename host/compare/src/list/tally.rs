@@ -42,6 +42,8 @@ pub struct Measures {
     pub got: u64,
     /// Of these, the ones whose listing is longer than any buffer here.
     pub past: u64,
+    /// Of these, the ones that were listed in the room that was measured.
+    pub listed: u64,
     pub longest: u64,
     pub deepest: u64,
     /// Volumes by the refusal of their measure.
@@ -142,6 +144,7 @@ impl Measures {
         let others = [
             (self.got == 0, "a measure"),
             (self.past == 0, "a measure of a listing longer than any buffer here"),
+            (self.listed == 0, "such a listing in the room that is measured"),
             (self.longest < MOST, "a measure of a listing as long as may be"),
             (self.deepest < 64, "a measure of a listing as deep as may be"),
             (self.short == 0, "a measure whose own line does not fit"),
@@ -154,9 +157,9 @@ impl fmt::Display for Measures {
     fn fmt(&self, f: &mut fmt::Formatter) -> fmt::Result {
         writeln!(
             f,
-            "measures: {} told, {} of listings longer than any buffer here, the longest {}, the deepest {}; {} calls, {} \
-             without room for the line",
-            self.got, self.past, self.longest, self.deepest, self.calls, self.short
+            "measures: {} told, {} of listings longer than other buffers here, {} of them listed in that room, the longest {}, \
+             the deepest {}; {} calls, {} without room for the line",
+            self.got, self.past, self.listed, self.longest, self.deepest, self.calls, self.short
         )?;
         writeln!(
             f,
