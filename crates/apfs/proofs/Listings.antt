@@ -22,7 +22,7 @@ use Rattle.listing.specs.Listed.{listedOf}
 use Rattle.apfs.specs.Call.{minus, number, resultAt, Within}
 use Rattle.apfs.proofs.Results.{result-back, refused-is}
 
-within-room : (room : ℕ) (t : Trace) (s : List ℕ) → within room t ≡ got s → length s ≤ room
+pub within-room : (room : ℕ) (t : Trace) (s : List ℕ) → within room t ≡ got s → length s ≤ room
 unfolding within
 within-room room t s = le-cases (λ (a : Answer (List ℕ)). a ≡ got s → length s ≤ room) (λ h e. of (t .ended) h e) (λ h e. absurd (let z : _≡_ {A = ℕ} 0 1 = cc in omega arith))
   where

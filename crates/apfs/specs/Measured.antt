@@ -2,9 +2,9 @@
 -- proofs/Measured.antt.
 --
 -- Of every image, checkpoint, volume and buffer: the call writes a line with two numbers, or -6 where the line does not fit, or gives a refusal; a refusal
--- leaves the buffer as it was. Of two numbers that are got, the first is a length such that the listing goes into every buffer of that length or more,
--- and every shorter one gets 6; the second is the depth of the one tree that the volume shows. Where the measurement is refused, but not with 14, a
--- listing is refused with the same number or with 6, into whatever buffer.
+-- leaves the buffer as it was. Of two numbers that are got, the first is a length, at most 4,294,967,295, such that the listing goes into every buffer of
+-- that length or more, and every shorter one gets 6; the second is the depth of the one tree that the volume shows. Where the measurement is refused, no
+-- buffer of at most 4,294,967,295 bytes gets a listing; and where it is not refused with 14, none does, each being refused with the same number or with 6.
 --
 -- By their contracts (src/lib.rt, src/earlier.rt) `apfs_measure(image, volume, out)` gives `resultOf (measuring image w) out` and leaves `bufferOf` of
 -- it, and `apfs_list(image, volume, out)` gives `listResult image w out` and leaves `listBuffer image w out`, w being `latest volume`; at a checkpoint by
@@ -41,6 +41,7 @@ listBuffer image w b = listedOf (listingOf image w (length b)) b .buffer
 pub record Lists (image : List ℕ) (w : Which) (n : ℕ) : Type 0 where
   pub text : List ℕ
   pub long : length text ≡ n
+  pub bounded : n ≤ 4_294_967_295
   pub enough : (b : List ℕ) → n ≤ length b → (listResult image w b ≡ pos n) × (listBuffer image w b ≡ text ++ drop n b)
   pub short : (b : List ℕ) → length b < n → (listResult image w b ≡ minus 6) × (listBuffer image w b ≡ replicate (length b) 0)
 
@@ -57,7 +58,9 @@ pub data GivesMeasure (image : List ℕ) (w : Which) (out : List ℕ) (result : 
   too-short : (n d : ℕ) → Lists image w n → Goes image w d → length out < length (numbersLine n d []) → Refused out result buffer 6 → GivesMeasure image w out result buffer
   -- "Where the measurement is refused with any number but 14, a listing of the same volume is refused with that number or 6"
   refused : (e : Refusal) → Refused out result buffer (numberOf e)
-      → ((e ≡ TooLong → ⊥) → (b : List ℕ) → (listResult image w b ≡ minus (numberOf e)) ⊎ (listResult image w b ≡ minus 6)) → GivesMeasure image w out result buffer
+      → ((e ≡ TooLong → ⊥) → (b : List ℕ) → (listResult image w b ≡ minus (numberOf e)) ⊎ (listResult image w b ≡ minus 6))
+      -- "14 when the length passes 4,294,967,295"
+      → ((b : List ℕ) → length b ≤ 4_294_967_295 → (x : Refusal) × (listResult image w b ≡ minus (numberOf x))) → GivesMeasure image w out result buffer
 
 abbrev pub ApfsMeasured : Type 0
 ApfsMeasured = (image : List ℕ) (w : Which) (out : List ℕ) → GivesMeasure image w out (resultOf (measuring image w) out) (bufferOf (measuring image w) out)
