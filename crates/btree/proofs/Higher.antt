@@ -18,7 +18,7 @@ use Rattle.btree.specs.Entries.{bytesOf, orderTold, orderOf, keyOrder, o
 use Rattle.btree.specs.Scan.{Run}
 use Rattle.btree.specs.Inner.{leafThen, leafFrom, itemThen, inLeaf, inNode, nextThen, followThen, hereThen, seekIn, seekAt, kinded, notBelow, staysAt}
 use Rattle.btree.specs.declared.entries.Search.{Search}
-use Rattle.btree.specs.declared.entries.Place.{Place}
+use Rattle.node.specs.declared.place.Place.{Place}
 use Rattle.btree.specs.declared.entries.Order.{Order}
 use Rattle.btree.specs.declared.entries.Order.the-variants.{Below, Inside, Above}
 use Rattle.btree.specs.declared.entries.Ordered.{Ordered}

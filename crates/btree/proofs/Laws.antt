@@ -1,17 +1,18 @@
 -- How a caller's answer goes on from what an entry gives.
 use Prim.Native.Nat.{ℕ, _≤_, _<_}
-use mathlib.Core.Path.{_≡_, refl, ap, _∙_}
+use mathlib.Core.Path.{_≡_, refl, sym, ap, _∙_}
 use mathlib.Core.List.{List}
-use native.Mathlib.Omega.{arith}
 use Rattle.error.specs.Answer.{Answer, got, no, _>>=_, ifLe}
 use Rattle.error.specs.declared.Refusal.{Refusal}
-use Rattle.error.proofs.Laws.{at-most, above, le-cases}
+use Rattle.error.proofs.Laws.{at-most, above}
 use Rattle.bytes.specs.Number as bytes
 use Rattle.bytes.specs.Part.{partOf}
 use Rattle.bytes.specs.declared.Number.{Number}
 use Rattle.bytes.specs.declared.Span.{Span}
 use Rattle.node.specs.Node.{parsed}
-use Rattle.node.specs.Entry.{keyValueAt, childAt}
+use Rattle.node.specs.Entry.{childAt}
+use Rattle.node.specs.Place.{placeOf}
+use Rattle.node.specs.declared.place.Place.{Place}
 use Rattle.node.specs.declared.table.KeyValue.{KeyValue}
 use Rattle.node.specs.declared.layout.Node.{Node}
 use Rattle.node.specs.declared.layout.Info.{Info}
@@ -22,7 +23,7 @@ use Rattle.lookup.specs.Path.{Through, atOnce, by, on, countAlong, counted}
 use Rattle.lookup.specs.Read.{nodeAt}
 use Rattle.lookup.specs.Map.{resolve, resolveAt}
 use Rattle.lookup.proofs.Laws as lookup-laws
-use Rattle.btree.specs.Entries.{bytesOf, orderTold, orderAt, keyOrder, byOrder, recordOf, passOver, recordAt, Act, into, childNode}
+use Rattle.btree.specs.Entries.{orderTold, keyOrder, byOrder, valued, recordOf, passOver, recordAt, Act, into, childNode}
 use Rattle.btree.specs.declared.entries.Search.{Search}
 use Rattle.btree.specs.declared.entries.Order.{Order}
 use Rattle.btree.specs.declared.entries.Order.the-variants as order
@@ -116,12 +117,12 @@ module _ (s u : List ℕ) (e : s ≡ u) where
   pub part-in : (x : Span) (z : List ℕ) → z ≡ partOf s x → z ≡ partOf u x
   part-in x z h = rw e at h
 
-module _ (m : Node) (key : Span) (x : Value) where
-  pub record-there : (v : Span) → x ≡ Value.At v → got (recordAt (record { block = m .block; key = key; value = v })) ≡ got (recordOf m key x)
+module _ (m : Node) (e : KeyValue) where
+  pub record-there : (v : Span) (p : Place) → e .value ≡ Value.At v → p ≡ placeOf (m .block) e → got (recordAt p) ≡ got (recordOf m e)
   unfolding recordOf
-  record-there v q = rw q
+  record-there v p q h = ap (λ (x : Place). got (recordAt x)) h ∙ ap (λ (x : Value). got (valued x (placeOf (m .block) e))) (sym q)
 
-  pub record-missing : x ≡ Value.Missing → got passOver ≡ got (recordOf m key x)
+  pub record-missing : e .value ≡ Value.Missing → got passOver ≡ got (recordOf m e)
   unfolding recordOf
   record-missing q = rw q
 

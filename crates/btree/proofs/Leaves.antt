@@ -12,13 +12,14 @@ use Rattle.node.specs.declared.table.KeyValue.{KeyValue}
 use Rattle.node.specs.declared.table.Value.{Value}
 use Rattle.node.specs.declared.table.Value.the-variants as value
 use Rattle.node.specs.Entry.{keyValueAt}
+use Rattle.node.specs.Place.{placeOf}
+use Rattle.node.proofs.Held.{held-block}
 use Rattle.bytes.specs.Part.{partOf}
-use Rattle.bytes.specs.declared.Span.{Span}
-use Rattle.btree.specs.Entries.{bytesOf, keyOrder, byOrder, Leaf, passOver, endScan, recordAt, recordOf, itemTold, itemIn, itemAt}
+use Rattle.btree.specs.Entries.{bytesOf, keyOrder, byOrder, Leaf, passOver, endScan, recordAt, valued, recordOf, itemTold, itemIn, itemAt}
 use Rattle.btree.specs.Scan.{Run, more}
 use Rattle.btree.specs.Inner.{leafThen, leafFrom, itemThen, inLeaf, inNode, inThen}
 use Rattle.btree.specs.declared.entries.Search.{Search}
-use Rattle.btree.specs.declared.entries.Place.{Place}
+use Rattle.node.specs.declared.place.Place.{Place}
 use Rattle.btree.specs.declared.entries.Item.{Item}
 use Rattle.btree.specs.declared.entries.Order.{Order}
 use Rattle.btree.specs.declared.entries.Order.the-variants.{Below, Inside, Above}
@@ -112,22 +113,25 @@ module _ (b : List ℕ) (q : Search) (m : Node) where
 
 -- a record of a leaf lies in the leaf's block
 module _ (b : List ℕ) (m : Node) (info : Info) (id kind : ℕ) (p : Place) where
-  of-record : (key : Span) (v : Value) → recordOf m key v ≡ recordAt p → p .block ≡ m .block
+  of-record : (e : KeyValue) → recordOf m e ≡ recordAt p → p .block ≡ m .block
   unfolding recordOf
-  of-record key (value.At v) e = cc
-  of-record key value.Missing e = absurd (let z : _≡_ {A = ℕ} 0 1 = cc in omega arith)
+  of-record e = of (e .value)
+    where
+      of : (v : Value) → valued v (placeOf (m .block) e) ≡ recordAt p → p .block ≡ m .block
+      of (value.At v) h = let z : placeOf (m .block) e ≡ p = cc in ap (λ (x : Place). x .block) (sym z) ∙ held-block (m .block) e
+      of value.Missing h = absurd (let z : _≡_ {A = ℕ} 0 1 = cc in omega arith)
 
-  of-order : (e : KeyValue) (o : Order) → byOrder o (got passOver) (got (recordOf m (e .key) (e .value))) (got endScan) ≡ got (recordAt p) → p .block ≡ m .block
+  of-order : (e : KeyValue) (o : Order) → byOrder o (got passOver) (got (recordOf m e)) (got endScan) ≡ got (recordAt p) → p .block ≡ m .block
   unfolding byOrder
   of-order e Below h = absurd (let z : _≡_ {A = ℕ} 0 1 = cc in omega arith)
-  of-order e Inside h = of-record (e .key) (e .value) cc
+  of-order e Inside h = of-record e cc
   of-order e Above h = absurd (let z : _≡_ {A = ℕ} 0 1 = cc in omega arith)
 
-  of-key : (e : KeyValue) (x : Answer Order) → (x >>= λ o. byOrder o (got passOver) (got (recordOf m (e .key) (e .value))) (got endScan)) ≡ got (recordAt p) → p .block ≡ m .block
+  of-key : (e : KeyValue) (x : Answer Order) → (x >>= λ o. byOrder o (got passOver) (got (recordOf m e)) (got endScan)) ≡ got (recordAt p) → p .block ≡ m .block
   of-key e (got o) h = of-order e o h
   of-key e (no w) h = absurd (let z : _≡_ {A = ℕ} 0 1 = cc in omega arith)
 
-  of-entry : (x : Answer KeyValue) → (x >>= λ e. keyOrder id kind (partOf b (e .key)) >>= λ o. byOrder o (got passOver) (got (recordOf m (e .key) (e .value))) (got endScan)) ≡ got (recordAt p) → p .block ≡ m .block
+  of-entry : (x : Answer KeyValue) → (x >>= λ e. keyOrder id kind (partOf b (e .key)) >>= λ o. byOrder o (got passOver) (got (recordOf m e)) (got endScan)) ≡ got (recordAt p) → p .block ≡ m .block
   of-entry (got e) h = of-key e (keyOrder id kind (partOf b (e .key))) h
   of-entry (no w) h = absurd (let z : _≡_ {A = ℕ} 0 1 = cc in omega arith)
 

@@ -15,7 +15,7 @@ use Rattle.lookup.specs.Counted.{Counted, after}
 use Rattle.btree.specs.Scan.{Run, more, end, refused, Tail, scanOf, nth, foundTold}
 use Rattle.btree.specs.Inner.{leafFrom, inNode, each, Reaches, node, child, walk, met, passTold, foundOf}
 use Rattle.btree.specs.declared.entries.Search.{Search}
-use Rattle.btree.specs.declared.entries.Place.{Place}
+use Rattle.node.specs.declared.place.Place.{Place}
 use Rattle.btree.specs.declared.entries.Found.{Found}
 use Rattle.btree.specs.declared.leaf.InLeaf.{InLeaf}
 use Rattle.btree.specs.declared.leaf.InLeaf.the-variants as leaf

@@ -7,7 +7,7 @@ use native.Mathlib.Omega.{arith}
 use Rattle.error.specs.Answer.{got}
 use Rattle.lookup.specs.Counted.{after}
 use Rattle.btree.specs.Scan.{Run, more, end, refused, nth, places, counts, ending}
-use Rattle.btree.specs.declared.entries.Place.{Place}
+use Rattle.node.specs.declared.place.Place.{Place}
 
 -- the number of a run's records
 abbrev pub size : Run → ℕ

@@ -43,7 +43,7 @@ module _ (b : List ℕ) (q : Search) (c : Node) where
   named-known (got p) h = read-known p (nodeAt (q .keys .reader) b p) refl h
   named-known (no w) h = absurd (let z : _≡_ {A = ℕ} 0 1 = cc in omega arith)
 
-  child-known : (a : Answer ℕ) → on a (childNode b q) .answer ≡ got (into c) → nodeAt (q .keys .reader) b (c .block) ≡ got c
+  pub child-known : (a : Answer ℕ) → on a (childNode b q) .answer ≡ got (into c) → nodeAt (q .keys .reader) b (c .block) ≡ got c
   unfolding childNode andThen
   child-known (got x) h = named-known (resolve (q .keys .reader) b (q .resolve) x .answer) h
   child-known (no w) h = absurd (let z : _≡_ {A = ℕ} 0 1 = cc in omega arith)

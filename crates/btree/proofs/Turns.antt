@@ -16,7 +16,7 @@ use Rattle.node.specs.declared.layout.Parsed.{Parsed}
 use Rattle.btree.specs.Scan.{Run, more, end, refused, Tail, scanOf}
 use Rattle.btree.specs.Inner.{leafFrom, inNode, inThen, each, turnOf, turnThen, Reaches, node, child, walk}
 use Rattle.btree.specs.declared.entries.Search.{Search}
-use Rattle.btree.specs.declared.entries.Place.{Place}
+use Rattle.node.specs.declared.place.Place.{Place}
 use Rattle.btree.specs.declared.leaf.InLeaf.{InLeaf}
 use Rattle.btree.specs.declared.leaf.InLeaf.the-variants as leaf
 use Rattle.btree.specs.declared.seek.Turn.the-variants as turn

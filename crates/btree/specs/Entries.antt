@@ -4,14 +4,14 @@ use mathlib.Core.List.{List}
 use Rattle.error.specs.Answer.{Answer, got, no, _>>=_, ifLe, ifEq}
 use Rattle.bytes.specs.Number.{numberAt}
 use Rattle.bytes.specs.Part.{partOf}
-use Rattle.bytes.specs.declared.Span.{Span}
 use Rattle.obj.specs.Block.{blockOf}
-use Rattle.obj.specs.declared.reader.Reader.{Reader}
 use Rattle.node.specs.Entry.{keyValueAt, childAt}
+use Rattle.node.specs.Place.{placeOf}
 use Rattle.node.specs.declared.layout.Node.{Node}
 use Rattle.node.specs.declared.layout.Info.{Info}
 use Rattle.node.specs.declared.layout.Parsed.{Parsed}
 use Rattle.node.specs.declared.layout.Parsed.the-variants as parsed
+use Rattle.node.specs.declared.table.KeyValue.{KeyValue}
 use Rattle.node.specs.declared.table.Value.{Value}
 use Rattle.node.specs.declared.table.Value.the-variants as value
 use Rattle.lookup.specs.Counted.{Counted, after}
@@ -19,7 +19,7 @@ use Rattle.lookup.specs.Path.{Through, atOnce, by, on, andThen}
 use Rattle.lookup.specs.Read.{nodeAt}
 use Rattle.lookup.specs.Map.{resolve}
 use Rattle.btree.specs.declared.entries.Search.{Search}
-use Rattle.btree.specs.declared.entries.Place.{Place}
+use Rattle.node.specs.declared.place.Place.{Place}
 use Rattle.btree.specs.declared.entries.Order.{Order}
 use Rattle.btree.specs.declared.entries.Order.the-variants.{Below, Inside, Above}
 use Rattle.btree.specs.declared.entries.Ordered.{Ordered}
@@ -31,13 +31,6 @@ use Rattle.btree.specs.declared.entries.Entering.{Entering}
 -- the bytes of a node's block
 abbrev pub bytesOf : List ℕ → Search → Node → List ℕ
 bytesOf b q m = blockOf (q .keys .reader) b (m .block)
-
--- the bytes of a record's key and of its value (document 01, "What must change shape": `scan` "answers places in the image")
-unfoldable pub keyOf : Reader → List ℕ → Place → List ℕ
-keyOf r b p = partOf (blockOf r b (p .block)) (p .key)
-
-unfoldable pub valueOf : Reader → List ℕ → Place → List ℕ
-valueOf r b p = partOf (blockOf r b (p .block)) (p .value)
 
 abbrev pub orderTold : Ordered → Answer Order
 orderTold (ordered.Got o) = got o
@@ -78,16 +71,19 @@ itemTold (item.At p) = got (recordAt p)
 itemTold (item.No e) = no e
 
 -- document 01, btree.rs: "Value offset 0xffff means no value; `scan` skips it"
-unfoldable pub recordOf : Node → Span → Value → Leaf
-recordOf m key (value.At v) = recordAt (record { block = m .block; key = key; value = v })
-recordOf m key value.Missing = passOver
+abbrev pub valued : Value → Place → Leaf
+valued (value.At v) p = recordAt p
+valued value.Missing p = passOver
+
+unfoldable pub recordOf : Node → KeyValue → Leaf
+recordOf m e = valued (e .value) (placeOf (m .block) e)
 
 -- the i-th entry of a leaf in the block b, read with its value
 unfoldable pub itemIn : List ℕ → Node → Info → ℕ → ℕ → ℕ → Answer Leaf
 itemIn b m info id kind i =
     keyValueAt b m info i >>= λ e.
     keyOrder id kind (partOf b (e .key)) >>= λ o.
-    byOrder o (got passOver) (got (recordOf m (e .key) (e .value))) (got endScan)
+    byOrder o (got passOver) (got (recordOf m e)) (got endScan)
 
 abbrev pub itemAt : List ℕ → Search → Node → ℕ → Answer Leaf
 itemAt b q m i = itemIn (bytesOf b q m) m (q .keys .info) (q .keys .id) (q .keys .kind) i

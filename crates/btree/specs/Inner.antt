@@ -20,7 +20,7 @@ use Rattle.btree.specs.Entries.{bytesOf, orderIn, orderAt, Leaf, passOve
 use Rattle.btree.specs.Scan.{Run, more, end, refused, Tail, nth}
 use Rattle.btree.specs.declared.entries.Keys.{Keys}
 use Rattle.btree.specs.declared.entries.Search.{Search}
-use Rattle.btree.specs.declared.entries.Place.{Place}
+use Rattle.node.specs.declared.place.Place.{Place}
 use Rattle.btree.specs.declared.entries.Order.{Order}
 use Rattle.btree.specs.declared.entries.Order.the-variants.{Below, Inside, Above}
 use Rattle.btree.specs.declared.entries.Found.{Found}

@@ -12,7 +12,7 @@ use Rattle.lookup.specs.Counted.{Counted, after}
 use Rattle.lookup.specs.Path.{Through}
 use Rattle.btree.specs.Entries.{Leaf, passOver, endScan, recordAt, itemAt, Act, stop, skip, into, turnAt}
 use Rattle.btree.specs.declared.entries.Search.{Search}
-use Rattle.btree.specs.declared.entries.Place.{Place}
+use Rattle.node.specs.declared.place.Place.{Place}
 use Rattle.btree.specs.declared.entries.Found.{Found}
 use Rattle.btree.specs.declared.entries.Found.the-variants as found
 use Rattle.btree.specs.declared.entries.Scanned.{Scanned}

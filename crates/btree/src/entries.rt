@@ -1,7 +1,6 @@
 // What a scan does at one entry of a node.
 use arith::tick;
 use bytes::Number;
-use bytes::Span;
 use bytes::part;
 use bytes::u64_at;
 use error::Refusal;
@@ -10,16 +9,22 @@ use lookup::read_node;
 use lookup::resolve_child;
 use node::Entered;
 use node::Info;
+use node::KeyValue;
 use node::Node;
 use node::Parsed;
+use node::Place;
 use node::Value;
 use node::child_of;
 use node::entry;
+use node::place_of;
 use obj::Reader;
 ghost use mathlib.Core.Path.{_≡_};
+ghost use Prim.Native.Nat.{_<_, _^_};
+ghost use lib.ListN.{length};
 ghost use Rattle.error.specs.Answer.{got};
+ghost use Rattle.node.specs.Place.{Small};
 ghost use Rattle.lookup.specs.Path.{counted};
-ghost use Rattle.btree.specs.Entries.{keyOf, valueOf, orderTold, keyOrder, orderOf, orderIn, itemTold, itemIn, recordOf, enteringTold, childNode, enterAt};
+ghost use Rattle.btree.specs.Entries.{orderTold, keyOrder, orderOf, orderIn, itemTold, itemIn, recordOf, enteringTold, childNode, enterAt};
 
 // What is looked for in a node: the keys of an id and a kind.
 pub struct Keys {
@@ -35,13 +40,6 @@ pub struct Search {
     pub keys: Keys,
     pub root: Node,
     pub resolve: Resolve,
-}
-
-// A record, inside its block.
-pub struct Place {
-    pub block: u64,
-    pub key: Span,
-    pub value: Span,
 }
 
 // A record of a scan, or how the scan ended.
@@ -81,20 +79,6 @@ pub enum Item {
 pub struct Entering {
     pub node: Parsed,
     pub nodes: u64,
-}
-
-// The bytes of a record's key.
-pub fn key_of(reader: Reader, image: &[u8], place: Place) -> &[u8]
-    ensures { λ r. ⌜ now r ≡ keyOf reader (now (image .entry)) place ⌝ }
-{
-    part(reader.block(image, place.block), place.key)
-}
-
-// The bytes of a record's value.
-pub fn value_of(reader: Reader, image: &[u8], place: Place) -> &[u8]
-    ensures { λ r. ⌜ now r ≡ valueOf reader (now (image .entry)) place ⌝ }
-{
-    part(reader.block(image, place.block), place.value)
 }
 
 // How a key that begins with `head` stands to an id and a kind: the id is compared first.
@@ -139,31 +123,27 @@ pub fn order_in(b: &[u8], node: Node, info: Info, id: u64, kind: u8, i: u32) -> 
 }
 
 // A record of a leaf, unless it has no value.
-fn record_of(node: Node, key: Span, value: Value) -> Item
-    ensures { λ r. ⌜ itemTold r ≡ got (recordOf node key value) ⌝ }
+fn record_of(node: Node, e: KeyValue) -> Item
+    requires { ⌜ Small e ⌝ }
+    ensures { λ r. ⌜ itemTold r ≡ got (recordOf node e) ⌝ }
 {
+    let value = e.value;
     match value {
-        Value::At(v) => Item::At(Place {
-            block: node.block,
-            key: key,
-            value: v,
-        }),
+        Value::At(_) => Item::At(place_of(node.block, e)),
         Value::Missing => Item::Pass,
     }
 }
 
 // The i-th entry of a leaf in the block b.
 pub fn item_in(b: &[u8], node: Node, info: Info, id: u64, kind: u8, i: u32) -> Item
+    requires { ⌜ length (now b) < 2 ^ 32 ⌝ }
     ensures { λ r. ⌜ itemTold r ≡ itemIn (now (b .entry)) node info id kind i ⌝ }
 {
     match entry(b, node, info, i) {
         Entered::Got(e) => match key_order(id, kind, part(b, e.key)) {
             Ordered::Got(o) => match o {
                 Order::Below => Item::Pass,
-                Order::Inside => {
-                    let value = e.value;
-                    record_of(node, e.key, value)
-                }
+                Order::Inside => record_of(node, e),
                 Order::Above => Item::Stop,
             },
             Ordered::No(e) => Item::No(e),

@@ -1,6 +1,5 @@
 // The record of a scan after a number of others: a recursion on the falling level that passes on how many remain to skip.
 use crate::entries::Found;
-use crate::entries::Place;
 use crate::entries::Scanned;
 use crate::entries::Search;
 use crate::leaf::InLeaf;
@@ -10,6 +9,7 @@ use crate::seek::next_child;
 use arith::tick;
 use error::Refusal;
 use node::Node;
+use node::Place;
 ghost use mathlib.Core.Path.{_≡_};
 ghost use Prim.Native.Nat.{ℕ, _-_};
 ghost use Rattle.btree.specs.Scan.{Run, Tail, scanOf, nth, scannedTold};

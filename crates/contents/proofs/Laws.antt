@@ -11,7 +11,7 @@ use Rattle.error.proofs.Laws.{at-most, above}
 use Rattle.lookup.specs.Counted.{Counted, after, onto}
 use Rattle.btree.specs.Scan.{Run, scanOf}
 use Rattle.btree.specs.declared.entries.Search.{Search}
-use Rattle.btree.specs.declared.entries.Place.{Place}
+use Rattle.node.specs.declared.place.Place.{Place}
 use Rattle.cursor.specs.Left.{runAt, inStep, Begins}
 use Rattle.cursor.specs.declared.steps.Reached.{Reached}
 use Rattle.cursor.specs.declared.steps.Step.{Step}

@@ -21,7 +21,7 @@ use Rattle.btree.specs.Scan.{Run, end, refused, Tail, scanOf}
 use Rattle.btree.specs.Inner.{leafFrom, inKeyed, inNode, each, Reaches, child, walk}
 use Rattle.btree.specs.declared.entries.Keys.{Keys}
 use Rattle.btree.specs.declared.entries.Search.{Search}
-use Rattle.btree.specs.declared.entries.Place.{Place}
+use Rattle.node.specs.declared.place.Place.{Place}
 use Rattle.btree.specs.declared.leaf.InLeaf.{InLeaf}
 use Rattle.btree.specs.declared.leaf.InLeaf.the-variants as leaf
 use Rattle.btree.specs.declared.seek.Turn.the-variants as turn

@@ -9,7 +9,7 @@ use Rattle.node.specs.declared.layout.Node.{Node}
 use Rattle.btree.specs.Scan.{Run, more, end, refused, places, scanOf}
 use Rattle.btree.specs.Inner.{inNode, inThen}
 use Rattle.btree.specs.declared.entries.Search.{Search}
-use Rattle.btree.specs.declared.entries.Place.{Place}
+use Rattle.node.specs.declared.place.Place.{Place}
 use Rattle.btree.specs.declared.leaf.InLeaf.{InLeaf}
 use Rattle.btree.specs.declared.leaf.InLeaf.the-variants.{At, Passed, End, No}
 use Rattle.btree.proofs.Laws as laws

@@ -8,7 +8,7 @@ use Rattle.error.specs.Answer.{Answer, got, no, _>>=_, pick, ifEq}
 use Rattle.lookup.specs.Counted.{Counted, after, from, onto}
 use Rattle.btree.specs.Scan.{Part, through, gives, passed, ended, failed, treePart, Run, more, end, refused, countedPart, scanOf, nth}
 use Rattle.btree.specs.declared.entries.Search.{Search}
-use Rattle.btree.specs.declared.entries.Place.{Place}
+use Rattle.node.specs.declared.place.Place.{Place}
 use Rattle.volume.specs.declared.Volume.{Volume}
 use Rattle.volume.specs.Rule.{hashedKeys}
 use Rattle.records.specs.Directory.{entryAt}

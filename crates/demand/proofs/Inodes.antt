@@ -18,9 +18,9 @@ use Rattle.bytes.specs.declared.Span.{Span}
 use Rattle.bytes.proofs.Laws.{read-fits}
 use Rattle.obj.specs.Block.{blockOf}
 use Rattle.lookup.specs.Counted.{after, onto}
-use Rattle.btree.specs.Entries.{valueOf}
+use Rattle.node.specs.Place.{valueOf}
 use Rattle.btree.specs.Scan.{nth, scanOf}
-use Rattle.btree.specs.declared.entries.Place.{Place}
+use Rattle.node.specs.declared.place.Place.{Place}
 use Rattle.volume.specs.declared.Volume.{Volume}
 use Rattle.inode_record.specs.Fields.{streamField, fieldIn, laterStream, mergedOf, fieldAt, fieldsFrom, fieldsIn}
 use Rattle.inode_record.specs.Inode.{idsIn, timesIn, ownerIn, inodeIn, inodeAt}

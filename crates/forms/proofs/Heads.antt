@@ -15,7 +15,7 @@ use Rattle.btree.specs.Scan.{Run, scanOf}
 use Rattle.cursor.specs.Left.{runAt, Begins}
 use Rattle.cursor.specs.declared.steps.Reached.{Reached}
 use Rattle.cursor.specs.declared.steps.Step.{Step}
-use Rattle.btree.specs.declared.entries.Place.{Place}
+use Rattle.node.specs.declared.place.Place.{Place}
 use Rattle.btree.specs.declared.entries.Search.{Search}
 use Rattle.volume.specs.Rule.{hashedKeys}
 use Rattle.records.specs.Directory.{entryAt}

@@ -32,7 +32,7 @@ use Rattle.streams.proofs.Contents.{stream-settled}
 use Rattle.contents.specs.Inner.{wholeFrom}
 use Rattle.contents.proofs.Laws.{whole-begun}
 use Rattle.btree.specs.Scan.{Run, scanOf}
-use Rattle.btree.specs.declared.entries.Place.{Place}
+use Rattle.node.specs.declared.place.Place.{Place}
 use Rattle.records.specs.declared.extent.Extent.{Extent}
 use Rattle.btree.specs.declared.entries.Search.{Search}
 use Rattle.cursor.specs.Left.{runAt, Begins}

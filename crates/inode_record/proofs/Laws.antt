@@ -6,7 +6,7 @@ use lib.IntN.{ℤ}
 use Rattle.error.specs.Answer.{Answer, got, no, _>>=_}
 use Rattle.error.specs.declared.Refusal.{Refusal}
 use Rattle.bytes.specs.declared.Span.{Span}
-use Rattle.btree.specs.declared.entries.Place.{Place}
+use Rattle.node.specs.declared.place.Place.{Place}
 use Rattle.btree.proofs.Laws as tree-laws
 use Rattle.names.specs.Name.{nameOf}
 use Rattle.names.specs.declared.Name.{Name}

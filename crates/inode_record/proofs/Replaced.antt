@@ -13,8 +13,8 @@ use Rattle.bytes.specs.Part.{partOf, spanAt, upToZero}
 use Rattle.bytes.specs.declared.Span.{Span}
 use Rattle.utf8.specs.Text.{replaced}
 use Rattle.obj.specs.declared.reader.Reader.{Reader}
-use Rattle.btree.specs.Entries.{valueOf}
-use Rattle.btree.specs.declared.entries.Place.{Place}
+use Rattle.node.specs.Place.{valueOf}
+use Rattle.node.specs.declared.place.Place.{Place}
 use Rattle.names.specs.Name.{nameOf}
 use Rattle.names.specs.declared.Name.{Name}
 use Rattle.names.proofs.Laws.{name-facts}

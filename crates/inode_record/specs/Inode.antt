@@ -6,8 +6,8 @@ use lib.IntN.{ℤ, pos, _-ℤ_}
 use Rattle.error.specs.Answer.{Answer, got, no, _>>=_, ifLe}
 use Rattle.bytes.specs.Number.{numberAt}
 use Rattle.obj.specs.declared.reader.Reader.{Reader}
-use Rattle.btree.specs.Entries.{valueOf}
-use Rattle.btree.specs.declared.entries.Place.{Place}
+use Rattle.node.specs.Place.{valueOf}
+use Rattle.node.specs.declared.place.Place.{Place}
 use Rattle.names.specs.Name.{nameBytes}
 use Rattle.names.specs.declared.Name.{Name}
 use Rattle.inode_record.specs.Fields.{fieldsIn}

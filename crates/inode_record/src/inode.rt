@@ -2,8 +2,6 @@
 use crate::fields::Fields;
 use crate::fields::FieldsRead;
 use crate::fields::fields_in;
-use btree::Place;
-use btree::value_of;
 use bytes::Number;
 use bytes::u16_at;
 use bytes::u32_at;
@@ -11,6 +9,8 @@ use bytes::u64_at;
 use error::Refusal;
 use names::Name;
 use names::name_bytes;
+use node::Place;
+use node::value_of;
 use obj::Reader;
 ghost use mathlib.Core.Path.{_≡_};
 ghost use Rattle.inode_record.specs.Inode.{inodeTold, idsTold, idsIn, timesTold, timesIn, ownerTold, ownerWith, ownerIn, signedOf, inodeIn, inodeAt, inodeName};

@@ -13,7 +13,7 @@ use Rattle.text.proofs.Writing as text-laws
 use Rattle.bytes.specs.declared.Span.{Span}
 use Rattle.names.specs.declared.Name.{Name}
 use Rattle.obj.specs.declared.reader.Reader.{Reader}
-use Rattle.btree.specs.declared.entries.Place.{Place}
+use Rattle.node.specs.declared.place.Place.{Place}
 use Rattle.records.specs.Attribute.{attributeName}
 use Rattle.inode_record.specs.Inode.{inodeName}
 use Rattle.records.specs.declared.attribute.Attribute.{Attribute}

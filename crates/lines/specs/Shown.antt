@@ -6,7 +6,7 @@ use mathlib.Core.Option.{Option, none, some}
 use lib.IntN.{ℤ}
 use Rattle.utf8.specs.Text.{lossy}
 use Rattle.obj.specs.declared.reader.Reader.{Reader}
-use Rattle.btree.specs.declared.entries.Place.{Place}
+use Rattle.node.specs.declared.place.Place.{Place}
 use Rattle.records.specs.Attribute.{attributeName}
 use Rattle.records.specs.Directory.{entryName}
 use Rattle.inode_record.specs.Inode.{inodeName}

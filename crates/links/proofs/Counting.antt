@@ -25,7 +25,7 @@ use Rattle.text.specs.declared.Position.the-variants.{At, No}
 use Rattle.text.proofs.Whole.{fits}
 use Rattle.feed.specs.Fed.{writtenAs}
 use Rattle.lookup.specs.Counted.{after, onto}
-use Rattle.btree.specs.declared.entries.Place.{Place}
+use Rattle.node.specs.declared.place.Place.{Place}
 use Rattle.volume.specs.declared.Volume.{Volume}
 use Rattle.records.specs.Attribute.{attributeBytes}
 use Rattle.records.specs.declared.attribute.Attribute.{Attribute}

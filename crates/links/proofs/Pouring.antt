@@ -11,7 +11,7 @@ use Rattle.bytes.specs.Part.{partOf}
 use Rattle.feed.specs.declared.feed.Feed.{Feed}
 use Rattle.btree.specs.Scan.{Run, scanOf}
 use Rattle.btree.specs.declared.entries.Search.{Search}
-use Rattle.btree.specs.declared.entries.Place.{Place}
+use Rattle.node.specs.declared.place.Place.{Place}
 use Rattle.cursor.specs.Left.{left, runAt, inStep, Begins}
 use Rattle.cursor.specs.declared.steps.Step.{Step}
 use Rattle.volume.specs.declared.Volume.{Volume}

@@ -9,7 +9,7 @@ use Rattle.bytes.specs.declared.Span.{Span}
 use Rattle.text.specs.Output.{Output, at, puts}
 use Rattle.feed.specs.declared.feed.Feed.{Feed}
 use Rattle.lookup.specs.Counted.{Counted, after, onto}
-use Rattle.btree.specs.declared.entries.Place.{Place}
+use Rattle.node.specs.declared.place.Place.{Place}
 use Rattle.volume.specs.declared.Volume.{Volume}
 use Rattle.records.specs.Attribute.{attributeBytes}
 use Rattle.records.specs.declared.attribute.AttributeData.{AttributeData}

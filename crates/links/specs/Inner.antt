@@ -14,7 +14,7 @@ use Rattle.utf8.specs.Text.{reading}
 use Rattle.feed.specs.Fed.{writtenAs, fed}
 use Rattle.feed.specs.declared.feed.Feed.{Feed}
 use Rattle.obj.specs.declared.reader.Reader.{Reader}
-use Rattle.btree.specs.declared.entries.Place.{Place}
+use Rattle.node.specs.declared.place.Place.{Place}
 use Rattle.volume.specs.declared.Volume.{Volume}
 use Rattle.records.specs.Attribute.{attributeBytes}
 use Rattle.records.specs.declared.attribute.Attribute.{Attribute}

@@ -8,7 +8,7 @@ use Rattle.bytes.specs.Part.{upToZero}
 use Rattle.utf8.specs.Text.{Reading, reading}
 use Rattle.text.specs.Words.{ascii}
 use Rattle.lookup.specs.Counted.{Counted, after, onto}
-use Rattle.btree.specs.declared.entries.Place.{Place}
+use Rattle.node.specs.declared.place.Place.{Place}
 use Rattle.volume.specs.declared.Volume.{Volume}
 use Rattle.records.specs.Attribute.{attributeBytes}
 use Rattle.records.specs.declared.attribute.Attribute.{Attribute}

@@ -16,8 +16,8 @@ use Rattle.obj.specs.Block.{blockOf}
 use Rattle.obj.specs.declared.reader.Reader.{Reader}
 use Rattle.lookup.specs.Counted.{after, from}
 use Rattle.btree.specs.Scan.{Run, more, end, refused, scanOf}
-use Rattle.btree.specs.Entries.{keyOf}
-use Rattle.btree.specs.declared.entries.Place.{Place}
+use Rattle.node.specs.Place.{keySpan, keyOf}
+use Rattle.node.specs.declared.place.Place.{Place}
 use Rattle.volume.specs.Rule.{ruleOf, hashedKeys}
 use Rattle.volume.specs.declared.Volume.{Volume}
 use Rattle.records.specs.Directory.{nameIn, entryValue, entryOf, entryAt}
@@ -66,7 +66,7 @@ element-read f (more p s r) xs e (suc k) x h =
 entry-name : (hashed : Bool) (r : Reader) (image : List ℕ) (p : Place) (e : Entry) → entryAt hashed r image p ≡ got e → nameIn hashed (keyOf r image (e .place)) ≡ got (e .name)
 unfolding entryAt entryOf entryValue keyOf
 entry-name hashed r image p e h =
-    let a = bound (nameIn hashed (partOf (blockOf r image (p .block)) (p .key))) _ e h in
+    let a = bound (nameIn hashed (partOf (blockOf r image (p .block)) (keySpan p))) _ e h in
     let b = bound (numberAt 8 _ 0) _ e (a .1 .1) in
     let c = bound (numberAt 8 _ 8) _ e (b .1 .1) in
     let d = bound (numberAt 2 _ 16) _ e (c .1 .1) in

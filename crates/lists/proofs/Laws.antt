@@ -12,7 +12,7 @@ use Rattle.lookup.specs.Counted.{Counted, after}
 use Rattle.btree.specs.Scan.{Run}
 use Rattle.btree.specs.Scan as scan
 use Rattle.btree.specs.declared.entries.Search.{Search}
-use Rattle.btree.specs.declared.entries.Place.{Place}
+use Rattle.node.specs.declared.place.Place.{Place}
 use Rattle.btree.specs.declared.entries.Found.{Found}
 use Rattle.btree.specs.declared.entries.Scanned.{Scanned}
 use Rattle.cursor.specs.Left.{runAt, inStep}

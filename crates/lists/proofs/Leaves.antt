@@ -9,7 +9,7 @@ use Rattle.obj.specs.declared.reader.Reader.{Reader}
 use Rattle.node.specs.declared.layout.Node.{Node}
 use Rattle.btree.specs.Inner.{inLeaf, inKeyed}
 use Rattle.btree.specs.declared.entries.Keys.{Keys}
-use Rattle.btree.specs.declared.entries.Place.{Place}
+use Rattle.node.specs.declared.place.Place.{Place}
 use Rattle.btree.specs.declared.leaf.InLeaf.{InLeaf}
 use Rattle.btree.specs.declared.leaf.InLeaf.the-variants as leaf
 use Rattle.btree.proofs.Leaves.{in-block}

@@ -10,7 +10,7 @@ use Rattle.node.specs.Node.{leafBit}
 use Rattle.btree.specs.Scan.{Run, more, end, refused, Tail, scanOf, nth}
 use Rattle.btree.specs.Inner.{leafFrom, inNode, child, kinded}
 use Rattle.btree.specs.declared.entries.Search.{Search}
-use Rattle.btree.specs.declared.entries.Place.{Place}
+use Rattle.node.specs.declared.place.Place.{Place}
 use Rattle.btree.specs.declared.leaf.InLeaf.{InLeaf}
 use Rattle.btree.specs.declared.leaf.InLeaf.the-variants.{At, Passed, End, No}
 use Rattle.btree.proofs.Turns.{leaf-at, as-leaf}

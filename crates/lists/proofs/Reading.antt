@@ -11,7 +11,7 @@ use Rattle.error.specs.declared.Refusal.{Refusal}
 use Rattle.lookup.specs.Counted.{Counted, after, from, onto}
 use Rattle.btree.specs.Scan.{Run, more, end, refused}
 use Rattle.btree.specs.declared.entries.Search.{Search}
-use Rattle.btree.specs.declared.entries.Place.{Place}
+use Rattle.node.specs.declared.place.Place.{Place}
 use Rattle.btree.specs.declared.leaf.InLeaf.{InLeaf}
 use Rattle.btree.specs.declared.leaf.InLeaf.the-variants.{At, Passed, End, No}
 use Rattle.cursor.specs.Left.{left, runAt, inStep, Begins}

@@ -10,7 +10,7 @@ use Rattle.error.proofs.Laws.{same, other}
 use Rattle.lookup.specs.Counted.{after}
 use Rattle.btree.specs.Scan.{Run, scanOf}
 use Rattle.btree.specs.declared.entries.Search.{Search}
-use Rattle.btree.specs.declared.entries.Place.{Place}
+use Rattle.node.specs.declared.place.Place.{Place}
 use Rattle.btree.specs.declared.leaf.InLeaf.{InLeaf}
 use Rattle.btree.specs.declared.leaf.InLeaf.the-variants as leaf
 use Rattle.cursor.specs.Left.{runAt, Begins}

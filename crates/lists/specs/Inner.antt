@@ -5,7 +5,7 @@ use mathlib.Core.List.{List, [], _∷_}
 use mathlib.Core.Option.{Option, none, some}
 use Rattle.error.specs.Answer.{Answer, got, no, _>>=_}
 use Rattle.btree.specs.Scan.{Run, more, end, refused}
-use Rattle.btree.specs.declared.entries.Place.{Place}
+use Rattle.node.specs.declared.place.Place.{Place}
 
 -- what is kept of a list once x is passed, where the element after `left` others is wanted
 unfoldable pub keep : {A : Type 0} → Option A → ℕ → A → Option A

@@ -10,7 +10,7 @@ use Rattle.lookup.specs.Counted.{Counted, after, from, onto}
 use Rattle.lookup.specs.declared.map.Resolve.the-variants.{Mapped}
 use Rattle.btree.specs.Scan.{Run, more, end, refused, scanOf, nth}
 use Rattle.btree.specs.declared.entries.Search.{Search}
-use Rattle.btree.specs.declared.entries.Place.{Place}
+use Rattle.node.specs.declared.place.Place.{Place}
 use Rattle.volume.specs.declared.Volume.{Volume}
 use Rattle.volume.specs.Rule.{hashedKeys}
 use Rattle.records.specs.Directory.{entryAt}

@@ -3,7 +3,7 @@
 use Prim.Native.Nat.{ℕ}
 use Rattle.error.specs.Answer.{Answer, got, no}
 use Rattle.error.specs.declared.Refusal.{Refusal}
-use Rattle.btree.specs.declared.entries.Place.{Place}
+use Rattle.node.specs.declared.place.Place.{Place}
 use Rattle.btree.specs.declared.leaf.InLeaf.{InLeaf}
 use Rattle.btree.specs.declared.leaf.InLeaf.the-variants as leaf
 use Rattle.records.specs.declared.directory.Entry.{Entry}

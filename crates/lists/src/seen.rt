@@ -12,7 +12,8 @@ use records::EntryRead;
 use records::Extent;
 use records::ExtentRead;
 ghost use mathlib.Core.Path.{_≡_};
-ghost use Prim.Native.Nat.{_-_};
+ghost use Prim.Native.Nat.{_-_, _<_, _^_};
+ghost use lib.ListN.{length};
 ghost use Rattle.btree.specs.Inner.{inLeaf};
 ghost use Rattle.cursor.specs.Left.{inReached};
 ghost use Rattle.records.specs.Directory.{entryOf, entryAt};
@@ -44,6 +45,7 @@ pub enum ExtentIn {
 
 // The next entry of a leaf m whose block is b.
 fn entry_of(b: &[u8], k: Keys, m: Node, from: u32) -> EntryIn
+    requires { ⌜ length (now b) < 2 ^ 32 ⌝ }
     ensures { λ r. ⌜ entrySeen r ≡ seenIn (entryOf (k .hashed) (now (b .entry))) (inLeaf (now (b .entry)) m (k .info) (k .id) (k .kind) (m .nkeys - from) from) ⌝ }
 {
     match in_leaf(b, m, k.info, k.id, k.kind, from) {
@@ -69,6 +71,7 @@ pub fn entry_in(image: &[u8], k: Keys, reached: Reached, from: u32) -> EntryIn
 
 // The next attribute of a leaf m whose block is b.
 fn attribute_of(b: &[u8], k: Keys, m: Node, from: u32) -> AttributeIn
+    requires { ⌜ length (now b) < 2 ^ 32 ⌝ }
     ensures { λ r. ⌜ attributeSeen r ≡ seenIn (attributeOf (now (b .entry))) (inLeaf (now (b .entry)) m (k .info) (k .id) (k .kind) (m .nkeys - from) from) ⌝ }
 {
     match in_leaf(b, m, k.info, k.id, k.kind, from) {
@@ -94,6 +97,7 @@ pub fn attribute_in(image: &[u8], k: Keys, reached: Reached, from: u32) -> Attri
 
 // The next extent of a leaf m whose block is b.
 fn extent_of(b: &[u8], k: Keys, m: Node, from: u32) -> ExtentIn
+    requires { ⌜ length (now b) < 2 ^ 32 ⌝ }
     ensures { λ r. ⌜ extentSeen r ≡ seenIn (extentOf (now (b .entry))) (inLeaf (now (b .entry)) m (k .info) (k .id) (k .kind) (m .nkeys - from) from) ⌝ }
 {
     match in_leaf(b, m, k.info, k.id, k.kind, from) {

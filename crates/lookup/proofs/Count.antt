@@ -12,7 +12,7 @@ use Rattle.obj.specs.declared.reader.Reader.{Reader}
 use Rattle.node.specs.declared.layout.Node.{Node}
 use Rattle.node.specs.declared.layout.Info.{Info}
 use Rattle.lookup.specs.declared.descent.Target.{Target}
-use Rattle.lookup.specs.declared.descent.Hit.{Hit}
+use Rattle.node.specs.declared.place.Place.{Place}
 use Rattle.lookup.specs.Path.{Through, atOnce, on, andThen, counted}
 use Rattle.lookup.specs.Lookup.{Step, nothing, found, into, stepAt, walked, lookNode, lookChild, look, lookupLe}
 use Rattle.lookup.specs.Count.{LeadsTo, Goes, CountsPath, ResolvesBy}
@@ -47,13 +47,13 @@ module _ (r : Reader) (b : List ℕ) (info : Info) (t : Target) where
   unfolding lookChild
   under-off zero c h = refl
   under-off (suc n) c h =
-      ap (λ (x : Through (Option Hit)). x .path) (sym (other _ _ _ _ _ (λ e. h (omega arith)) refl))
+      ap (λ (x : Through (Option Place)). x .path) (sym (other _ _ _ _ _ (λ e. h (omega arith)) refl))
 
   under-on : (n : ℕ) (c : Node) → c .level + 1 ≡ n → under n c ≡ rest (n - 1) c
   unfolding lookChild
   under-on zero c h = absurd (omega arith)
   under-on (suc n) c h =
-      rw sub-one (ap (λ (x : Through (Option Hit)). x .path) (sym (same (c .level) n (lookNode (lookChild r b info t n) r b info t c) _ _ (omega arith) refl)))
+      rw sub-one (ap (λ (x : Through (Option Place)). x .path) (sym (same (c .level) n (lookNode (lookChild r b info t n) r b info t c) _ _ (omega arith) refl)))
 
   -- the path of the definition is one by the rules: a step of it, and all of it
   goes-on : (n : ℕ) (m : Node) → m .level ≡ n → ((c : Node) → c .level + 1 ≡ n → Goes r b info t c (c .block ∷ rest (n - 1) c)) → Goes r b info t m (m .block ∷ rest n m)

@@ -10,7 +10,7 @@ use Rattle.error.specs.Answer.{pick}
 use Rattle.error.proofs.Laws.{got-is}
 use Rattle.lookup.specs.Key.{targetKey, IsAbove, NotAbove, above?, isYes}
 use Rattle.lookup.proofs.Keys.{says-above, says-not}
-use Rattle.lookup.specs.declared.descent.Hit.{Hit}
+use Rattle.node.specs.declared.place.Place.{Place}
 use Rattle.lookup.specs.declared.descent.Target.{Target}
 use Rattle.lookup_walk.specs.Walk.{Item, Tree, leaf, index, Branches, bare, branch, items, itemsOf, Rises, Ascends, FirstItem, FirstBranch, FirstIs, Firsts, FirstsOf, lastIn}
 
@@ -70,23 +70,23 @@ module _ (t : Target) where
   key-not : (k : ℕ × ℕ) → NotAbove k (targetKey t) → isYes (above? k (targetKey t)) ≡ false
   key-not k h = sym (got-is _ _ (says-not k (targetKey t) h))
 
-  pub last-append : (o : Option Hit) (xs ys : List Item) → lastIn t o (xs ++ ys) ≡ lastIn t (lastIn t o xs) ys
+  pub last-append : (o : Option Place) (xs ys : List Item) → lastIn t o (xs ++ ys) ≡ lastIn t (lastIn t o xs) ys
   unfolding lastIn
   last-append o [] ys = refl
   last-append o (x ∷ xs) ys = last-append (pick (isYes (above? (x .key) (targetKey t))) o (some (x .hit))) xs ys
 
   -- entries above the target change nothing
-  pub last-over : (o : Option Hit) (xs : List Item) → Over (targetKey t) xs → lastIn t o xs ≡ o
+  pub last-over : (o : Option Place) (xs : List Item) → Over (targetKey t) xs → lastIn t o xs ≡ o
   unfolding lastIn
   last-over o [] h = refl
   last-over o (x ∷ xs) h = rw (key-above (x .key) (h .0)) (last-over o xs (h .1))
 
   -- one that is not above it takes the place of what was kept
-  pub last-taken : (o : Option Hit) (x : Item) (xs : List Item) → NotAbove (x .key) (targetKey t) → lastIn t o (x ∷ xs) ≡ lastIn t (some (x .hit)) xs
+  pub last-taken : (o : Option Place) (x : Item) (xs : List Item) → NotAbove (x .key) (targetKey t) → lastIn t o (x ∷ xs) ≡ lastIn t (some (x .hit)) xs
   unfolding lastIn
   last-taken o x xs h = rw (key-not (x .key) h)
 
-  pub last-fresh : (o p : Option Hit) (x : Item) (xs : List Item) → NotAbove (x .key) (targetKey t) → lastIn t o (x ∷ xs) ≡ lastIn t p (x ∷ xs)
+  pub last-fresh : (o p : Option Place) (x : Item) (xs : List Item) → NotAbove (x .key) (targetKey t) → lastIn t o (x ∷ xs) ≡ lastIn t p (x ∷ xs)
   last-fresh o p x xs h = last-taken o x xs h ∙ sym (last-taken p x xs h)
 
 -- the first entry of a tree whose first key is k

@@ -17,9 +17,9 @@ use Rattle.obj.specs.Header.{headerAt}
 use Rattle.obj.specs.declared.reader.Reader.{Reader}
 use Rattle.node.specs.Node.{fieldsAt, laidOut, bodyOf, nodeOf}
 use Rattle.node.specs.Entry.{fixedAt, variableAt, rowAt, withValue, keyValueAt, childAt}
+use Rattle.node.specs.Place.{noPart, placeOf}
 use Rattle.node.specs.declared.layout.Node.{Node}
 use Rattle.node.specs.declared.layout.Info.{Info}
-use Rattle.node.specs.declared.table.Value.the-variants.{At, Missing}
 use Rattle.lookup.specs.Read.{nodeAt}
 use Rattle.lookup.specs.Key.{keyIn, keyAt, targetKey, NotAbove}
 use Rattle.lookup.specs.declared.descent.Target.{Target}
@@ -79,10 +79,10 @@ abbrev root : Node
 root = record { block = 1; toc = 56; keys = 64; vals = 120; nkeys = 2; flags = 5; level = 1 }
 
 abbrev item : ℕ → ℕ → ℕ → ℕ → ℕ → Item
-item oid xid block key value = record { key = (oid, xid); hit = record { block = block; key = record { start = key; len = 16 }; value = At (record { start = value; len = 16 }) } }
+item oid xid block key value = record { key = (oid, xid); hit = record { block = block; «key_off» = key; «key_len» = 16; «val_off» = value; «val_len» = 16 } }
 
 abbrev ghost : ℕ → ℕ → ℕ → ℕ → Item
-ghost oid xid block key = record { key = (oid, xid); hit = record { block = block; key = record { start = key; len = 16 }; value = Missing } }
+ghost oid xid block key = record { key = (oid, xid); hit = record { block = block; «key_off» = key; «key_len» = 16; «val_off» = noPart; «val_len» = noPart } }
 
 abbrev tree : Tree
 tree =
@@ -96,7 +96,7 @@ unfolding image ifLe ifEq little numberAt partOf spanAt productOf wordsAt wordsO
 root-read = refl
 
 tree-read : treeAt reader image info root ≡ got tree
-unfolding image ifLe ifEq little numberAt partOf spanAt productOf wordsAt wordsOf sum running s1 s2 checksum valid blockAt blockOf objectAt headerAt fieldsAt laidOut bodyOf nodeOf nodeAt fixedAt variableAt rowAt withValue keyValueAt childAt keyIn keyAt itemAt itemsFrom childNode branchesFrom nodeTree childTree treeAt
+unfolding image ifLe ifEq little numberAt partOf spanAt productOf wordsAt wordsOf sum running s1 s2 checksum valid blockAt blockOf objectAt headerAt fieldsAt laidOut bodyOf nodeOf nodeAt fixedAt variableAt rowAt withValue keyValueAt placeOf childAt keyIn keyAt itemAt itemsFrom childNode branchesFrom nodeTree childTree treeAt
 tree-read = refl
 
 pub well-formed : WellFormed reader image info root

@@ -11,13 +11,14 @@ use Rattle.bytes.specs.Part.{partOf}
 use Rattle.obj.specs.Block.{blockOf}
 use Rattle.obj.specs.declared.reader.Reader.{Reader}
 use Rattle.node.specs.Entry.{keyValueAt}
+use Rattle.node.specs.Place.{placeOf, placeAt}
 use Rattle.node.specs.declared.layout.Node.{Node}
 use Rattle.node.specs.declared.layout.Info.{Info}
 use Rattle.lookup.specs.Lookup.{found, hitStep}
 use Rattle.lookup.specs.Key.{keyIn, keyAt, targetKey, IsAbove, NotAbove}
 use Rattle.lookup.specs.Sorted.{Parts}
 use Rattle.lookup.specs.declared.descent.Target.{Target}
-use Rattle.lookup.specs.declared.descent.Hit.{Hit}
+use Rattle.node.specs.declared.place.Place.{Place}
 use Rattle.lookup_walk.specs.Walk.{Item, Tree, Branches, bare, branch, items, itemsOf, Firsts, FirstsOf, itemAt, itemsFrom, childNode, branchesFrom, lastIn}
 use Rattle.lookup_walk.proofs.Climbs.{Over, Climbs, over-up, climbs-left, climbs-right, last-append, last-over, last-taken, last-fresh, Begins, first-item}
 use Rattle.lookup_walk.proofs.NodeKeys.{keysFrom, keysOf, branchKeys}
@@ -28,12 +29,12 @@ module _ (r : Reader) (b : List ℕ) (info : Info) (m : Node) where
 
   -- what an entry of a leaf that was read says
   item-parts : (i : ℕ) (x : Item) → itemAt r b info m i ≡ got x → (keyAt bytes m info i ≡ got (x .key)) × (hitStep r b m info i ≡ got (found (x .hit)))
-  unfolding itemAt keyAt hitStep
+  unfolding itemAt keyAt hitStep placeAt
   item-parts i x e =
-      let p = bound (keyValueAt bytes m info i) (λ y. keyIn (partOf bytes (y .key)) >>= λ k. got (record { key = k; hit = record { block = m .block; key = y .key; value = y .value } })) x e in
-      let q = bound (keyIn (partOf bytes (p .0 .key))) (λ k. got (record { key = k; hit = record { block = m .block; key = p .0 .key; value = p .0 .value } })) x (p .1 .1) in
-      let w : got (record { key = q .0; hit = record { block = m .block; key = p .0 .key; value = p .0 .value } }) ≡ got x = q .1 .1 in
-      let z : record { key = q .0; hit = record { block = m .block; key = p .0 .key; value = p .0 .value } } ≡ x = cc in
+      let p = bound (keyValueAt bytes m info i) (λ y. keyIn (partOf bytes (y .key)) >>= λ k. got (record { key = k; hit = placeOf (m .block) y })) x e in
+      let q = bound (keyIn (partOf bytes (p .0 .key))) (λ k. got (record { key = k; hit = placeOf (m .block) (p .0) })) x (p .1 .1) in
+      let w : got (record { key = q .0; hit = placeOf (m .block) (p .0) }) ≡ got x = q .1 .1 in
+      let z : record { key = q .0; hit = placeOf (m .block) (p .0) } ≡ x = cc in
       (rw (p .1 .0) (q .1 .0 ∙ ap (λ (y : Item). got (y .key)) z), rw (p .1 .0) (ap (λ (y : Item). got (found (y .hit))) z))
 
   record Leaf (n i : ℕ) (xs : List Item) : Type 0 where
@@ -70,8 +71,8 @@ module _ (r : Reader) (b : List ℕ) (info : Info) (m : Node) where
         (parts .rest i (s .first .key) h (omega arith) (s .key), leaf-over c (i + 1) (s .rest) (omega arith) (s .tail) (omega arith))
 
     -- before it the walk keeps the last
-    pub leaf-last : (c i : ℕ) (xs : List Item) (o : Option Hit) → i + c ≡ m .nkeys → itemsFrom r b info m c i ≡ got xs → i < n →
-        (h : Hit) × (hitStep r b m info (n - 1) ≡ got (found h)) × (lastIn t o xs ≡ some h)
+    pub leaf-last : (c i : ℕ) (xs : List Item) (o : Option Place) → i + c ≡ m .nkeys → itemsFrom r b info m c i ≡ got xs → i < n →
+        (h : Place) × (hitStep r b m info (n - 1) ≡ got (found h)) × (lastIn t o xs ≡ some h)
     leaf-last zero i xs o d e h = absurd (omega (arith, parts .within))
     leaf-last (suc c) i xs o d e h = of (decLe n (i + 1)) (leaf-last c (i + 1) (s .rest) (some (s .first .hit)) (omega arith) (s .tail))
       where
@@ -81,8 +82,8 @@ module _ (r : Reader) (b : List ℕ) (info : Info) (m : Node) where
         now : lastIn t o xs ≡ lastIn t (some (s .first .hit)) (s .rest)
         now = ap (lastIn t o) (sym (s .whole)) ∙ last-taken t o (s .first) (s .rest) (parts .before i (s .first .key) h (s .key))
 
-        of : Dec (n ≤ i + 1) → (i + 1 < n → (h : Hit) × (hitStep r b m info (n - 1) ≡ got (found h)) × (lastIn t (some (s .first .hit)) (s .rest) ≡ some h)) →
-            (h : Hit) × (hitStep r b m info (n - 1) ≡ got (found h)) × (lastIn t o xs ≡ some h)
+        of : Dec (n ≤ i + 1) → (i + 1 < n → (h : Place) × (hitStep r b m info (n - 1) ≡ got (found h)) × (lastIn t (some (s .first .hit)) (s .rest) ≡ some h)) →
+            (h : Place) × (hitStep r b m info (n - 1) ≡ got (found h)) × (lastIn t o xs ≡ some h)
         of (Dec.yes k) g =
             let q : n - 1 ≡ i = omega arith in
             (s .first .hit, rw q (s .hit), now ∙ last-over t (some (s .first .hit)) (s .rest) (leaf-over c (i + 1) (s .rest) (omega arith) (s .tail) k))
@@ -148,7 +149,7 @@ module _ (r : Reader) (b : List ℕ) (info : Info) (m : Node) where
           (subst⁻¹ (λ (l : List Item). Over (targetKey t) (l ++ itemsOf (s .rest))) (g .2)
           (a, over-up (targetKey t) (g .0 .key) (g .1 ++ itemsOf (s .rest)) a (j .0)))
 
-      pub record Last (o : Option Hit) (bs : Branches) : Type 0 where
+      pub record Last (o : Option Place) (bs : Branches) : Type 0 where
         pub node : Node
         pub tree : Tree
         pub child : childNode r b info m (n - 1) ≡ got node
@@ -158,7 +159,7 @@ module _ (r : Reader) (b : List ℕ) (info : Info) (m : Node) where
         pub walk : lastIn t o (itemsOf bs) ≡ lastIn t none (items tree)
 
       -- before it the walk is left with what the last child's own walk keeps
-      pub fork-last : (c i : ℕ) (bs : Branches) (o : Option Hit) → i + c ≡ m .nkeys → branchesFrom r b info f m c i ≡ got bs → FirstsOf bs → Climbs (itemsOf bs) → i < n → Last o bs
+      pub fork-last : (c i : ℕ) (bs : Branches) (o : Option Place) → i + c ≡ m .nkeys → branchesFrom r b info f m c i ≡ got bs → FirstsOf bs → Climbs (itemsOf bs) → i < n → Last o bs
       fork-last zero i bs o d e w k h = absurd (omega (arith, parts .within))
       fork-last (suc c) i bs o d e w k h = of (decLe n (i + 1)) (fork-last c (i + 1) (s .rest) (lastIn t o (items (s .tree))) (omega arith) (s .tail) (w′ .2) (climbs-right (items (s .tree)) (itemsOf (s .rest)) k′))
         where

@@ -20,7 +20,7 @@ use Rattle.lookup.specs.Lookup.{Step, nothing, found, into, upperOf, hitStep, c
 use Rattle.lookup.specs.Map.{mappingOf, targetFor, lookIn, mapLookup, blockFor, blockIn, resolve, resolveAt}
 use Rattle.lookup.specs.Sorted.{Sorted, Parts}
 use Rattle.lookup.specs.declared.descent.Target.{Target}
-use Rattle.lookup.specs.declared.descent.Hit.{Hit}
+use Rattle.node.specs.declared.place.Place.{Place}
 use Rattle.lookup.specs.declared.map.Map.{Map}
 use Rattle.lookup.specs.declared.map.MapValue.{MapValue}
 use Rattle.lookup.specs.declared.map.Resolve.the-variants.{Mapped}
@@ -32,10 +32,10 @@ use Rattle.lookup_walk.proofs.OneNode.{leaf-keys, leaf-last, leaf-none,
 
 module _ (r : Reader) (b : List ℕ) (info : Info) (t : Target) where
   -- what the lookup answers from a tree
-  abbrev Right : Through (Option Hit) → Tree → Type 0
+  abbrev Right : Through (Option Place) → Tree → Type 0
   Right c tree = c .answer ≡ got (lastIn t none (items tree))
 
-  module _ (m : Node) (f : Node → Through (Option Hit)) (g : Node → Answer Tree) where
+  module _ (m : Node) (f : Node → Through (Option Place)) (g : Node → Answer Tree) where
     -- the answer, by the number of entries that are taken as not above the target
     answered : (n : ℕ) → upperOf (blockOf r b (m .block)) m info t ≡ got n → (st : Step) →
         ifEq n 0 (got nothing) (ifEq (leafBit (m .flags)) 1 (hitStep r b m info (n - 1)) (childStep r b m info (n - 1))) ≡ got st → lookNode f r b info t m ≡ walked f st
@@ -53,10 +53,10 @@ module _ (r : Reader) (b : List ℕ) (info : Info) (t : Target) where
 
         of : (n : ℕ) → upperOf bytes m info t ≡ got n → Parts bytes m info t n → Dec (n ≡ 0) → lookNode f r b info t m .answer ≡ got (lastIn t none xs)
         of n u p (Dec.yes q) =
-            ap (λ (c : Through (Option Hit)). c .answer) (answered n u nothing (sym (same _ _ _ _ _ q refl))) ∙ ap got (sym (leaf-none r b info m t n p xs e q))
+            ap (λ (c : Through (Option Place)). c .answer) (answered n u nothing (sym (same _ _ _ _ _ q refl))) ∙ ap got (sym (leaf-none r b info m t n p xs e q))
         of n u p (Dec.no q) =
             let l = leaf-last r b info m t n p (m .nkeys) 0 xs none (omega arith) e (omega arith) in
-            ap (λ (c : Through (Option Hit)). c .answer) (answered n u (found (l .0)) (sym (other _ _ _ _ _ q (same _ _ _ _ _ z (sym (l .1)))))) ∙ ap got (sym (l .2))
+            ap (λ (c : Through (Option Place)). c .answer) (answered n u (found (l .0)) (sym (other _ _ _ _ _ q (same _ _ _ _ _ z (sym (l .1)))))) ∙ ap got (sym (l .2))
 
     child-step : (i : ℕ) (c : Node) → childNode r b info m i ≡ got c → childStep r b m info i ≡ got (into c)
     unfolding childNode childStep
@@ -76,10 +76,10 @@ module _ (r : Reader) (b : List ℕ) (info : Info) (t : Target) where
 
         of : (n : ℕ) → upperOf bytes m info t ≡ got n → Parts bytes m info t n → Dec (n ≡ 0) → lookNode f r b info t m .answer ≡ got (lastIn t none (itemsOf bs))
         of n u p (Dec.yes q) =
-            ap (λ (c : Through (Option Hit)). c .answer) (answered n u nothing (sym (same _ _ _ _ _ q refl))) ∙ ap got (sym (fork-none r b info m g t n p bs e w k q))
+            ap (λ (c : Through (Option Place)). c .answer) (answered n u nothing (sym (same _ _ _ _ _ q refl))) ∙ ap got (sym (fork-none r b info m g t n p bs e w k q))
         of n u p (Dec.no q) =
             let l : Last r b info m g t n p none bs = fork-last r b info m g t n p (m .nkeys) 0 bs none (omega arith) e w k (omega arith) in
-            ap (λ (c : Through (Option Hit)). c .answer) (answered n u (into (l .node)) (sym (other _ _ _ _ _ q (other _ _ _ _ _ z (sym (child-step (n - 1) (l .node) (l .child)))))))
+            ap (λ (c : Through (Option Place)). c .answer) (answered n u (into (l .node)) (sym (other _ _ _ _ _ q (other _ _ _ _ _ z (sym (child-step (n - 1) (l .node) (l .child)))))))
             ∙ (h (l .node) (l .tree) (l .below) (l .firsts) (l .climbs) ∙ ap got (sym (l .walk)))
 
     node-right : (tree : Tree) → nodeTree r b info g m ≡ got tree → Firsts tree → Climbs (items tree) →
@@ -106,7 +106,7 @@ module _ (r : Reader) (b : List ℕ) (info : Info) (t : Target) where
       of : Dec (c .level ≡ n) → ((d : Node) (x : Tree) → childTree r b info n d ≡ got x → Firsts x → Climbs (items x) → Right (lookChild r b info t n d) x) →
           Right (ifEq (c .level) n (lookNode (lookChild r b info t n) r b info t c) (atOnce (no Corrupt))) tree
       of (Dec.yes z) h =
-          subst (λ (x : Through (Option Hit)). Right x tree) (same _ _ _ _ _ z refl)
+          subst (λ (x : Through (Option Place)). Right x tree) (same _ _ _ _ _ z refl)
           (node-right c (lookChild r b info t n) (childTree r b info n) tree (same _ _ _ _ _ z refl ∙ e) w k h)
       of (Dec.no z) h = absurd (let x : no Corrupt ≡ got tree = other _ _ _ _ _ z refl ∙ e in let y : _≡_ {A = ℕ} 0 1 = cc in omega arith)
 
@@ -124,7 +124,7 @@ module _ (r : Reader) (b : List ℕ) (info : Info) (root : Node) (w : WellFormed
   quick-is-slow t s = look-is-slow t
 
   -- and is no refusal
-  pub never-refused : (t : Target) (s : ℕ) → (o : Option Hit) × (lookupLe r b info t root s .answer ≡ got o)
+  pub never-refused : (t : Target) (s : ℕ) → (o : Option Place) × (lookupLe r b info t root s .answer ≡ got o)
   unfolding walkLe
   never-refused t s = (lastIn t none (items (w .tree)), quick-is-slow t s ∙ rw (w .reads))
 
@@ -143,7 +143,7 @@ module _ (r : Reader) (b : List ℕ) (m : Map) (w : WellFormed r b (m .info) (m 
   unfolding lookIn
   looked oid =
       said (mappingOf r b oid) (look r b (m .info) (targetFor m oid) (m .root))
-      ∙ ap (λ (a : Answer (Option Hit)). a >>= mappingOf r b oid) (look-is-slow r b (m .info) (m .root) w (targetFor m oid))
+      ∙ ap (λ (a : Answer (Option Place)). a >>= mappingOf r b oid) (look-is-slow r b (m .info) (m .root) w (targetFor m oid))
 
   pub map-is-slow : (oid s : ℕ) → mapLookup r b m oid s .answer ≡ mapSlow r b m oid
   unfolding mapLookup counted

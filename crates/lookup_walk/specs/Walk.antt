@@ -10,10 +10,11 @@ use Rattle.obj.specs.Block.{blockOf}
 use Rattle.obj.specs.declared.reader.Reader.{Reader}
 use Rattle.node.specs.Node.{leafBit}
 use Rattle.node.specs.Entry.{keyValueAt, childAt}
+use Rattle.node.specs.Place.{placeOf}
 use Rattle.node.specs.declared.layout.Node.{Node}
 use Rattle.node.specs.declared.layout.Info.{Info}
 use Rattle.lookup.specs.declared.descent.Target.{Target}
-use Rattle.lookup.specs.declared.descent.Hit.{Hit}
+use Rattle.node.specs.declared.place.Place.{Place}
 use Rattle.lookup.specs.declared.map.Map.{Map}
 use Rattle.lookup.specs.declared.map.MapValue.{MapValue}
 use Rattle.lookup.specs.Read.{nodeAt}
@@ -23,7 +24,7 @@ use Rattle.lookup.specs.Key.{keyIn, keyAt, targetKey, IsAbove, above?, isYes}
 -- an entry of a leaf: the two numbers that its key begins with, and where it lies
 pub record Item : Type 0 where
   pub key : ℕ × ℕ
-  pub hit : Hit
+  pub hit : Place
 
 -- a tree, read whole: a leaf's entries; of an index node each entry's key and child
 mutual
@@ -41,7 +42,7 @@ module _ (r : Reader) (b : List ℕ) (info : Info) where
   itemAt m i =
       keyValueAt (blockOf r b (m .block)) m info i >>= λ e.
       keyIn (partOf (blockOf r b (m .block)) (e .key)) >>= λ k.
-      got (record { key = k; hit = record { block = m .block; key = e .key; value = e .value } })
+      got (record { key = k; hit = placeOf (m .block) e })
 
   -- n entries of a leaf from the i-th on
   unfoldable pub itemsFrom : Node → ℕ → ℕ → Answer (List Item)
@@ -127,12 +128,12 @@ pub record WellFormed (r : Reader) (b : List ℕ) (info : Info) (root : Node) : 
   pub firsts : Firsts tree
 
 -- a walk over entries "that keeps the last one not above the target"
-unfoldable pub lastIn : Target → Option Hit → List Item → Option Hit
+unfoldable pub lastIn : Target → Option Place → List Item → Option Place
 lastIn t kept [] = kept
 lastIn t kept (x ∷ xs) = lastIn t (pick (isYes (above? (x .key) (targetKey t))) kept (some (x .hit))) xs
 
 -- the slow lookup: over all entries of the tree
-unfoldable pub walkLe : Reader → List ℕ → Info → Target → Node → Answer (Option Hit)
+unfoldable pub walkLe : Reader → List ℕ → Info → Target → Node → Answer (Option Place)
 walkLe r b info t root = treeAt r b info root >>= λ tree. got (lastIn t none (items tree))
 
 -- what an object map says of an object by that walk

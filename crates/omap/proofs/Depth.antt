@@ -14,7 +14,7 @@ use Rattle.lookup.specs.Path.{atOnce, on, andThen, countAlong, counted}
 use Rattle.lookup.specs.Read.{nodeAt}
 use Rattle.lookup.specs.Lookup.{look, lookupLe}
 use Rattle.lookup.specs.Map.{mappingOf, targetFor, lookIn, mapLookup}
-use Rattle.lookup.specs.declared.descent.Hit.{Hit}
+use Rattle.node.specs.declared.place.Place.{Place}
 use Rattle.lookup.specs.declared.map.Map.{Map}
 use Rattle.lookup.specs.declared.map.MapValue.{MapValue}
 use Rattle.lookup.proofs.Count.{counts-path, told-path}
@@ -53,12 +53,12 @@ root-level r image paddr xid s m e =
     of root h k = omega (arith, ap (λ (n : Node). n .level) k)
 
 look-got : (r : Reader) (image : List ℕ) (m : Map) (oid n : ℕ) (v : Option MapValue) → mapLookup r image m oid n .answer ≡ got v →
-    (o : Option Hit) × (look r image (m .info) (targetFor m oid) (m .root) .answer ≡ got o)
+    (o : Option Place) × (look r image (m .info) (targetFor m oid) (m .root) .answer ≡ got o)
 unfolding mapLookup lookIn counted andThen
 look-got r image m oid n v e = of (look r image (m .info) (targetFor m oid) (m .root) .answer) refl e
   where
-    of : (a : Answer (Option Hit)) → look r image (m .info) (targetFor m oid) (m .root) .answer ≡ a → on a (λ o. atOnce (mappingOf r image oid o)) .answer ≡ got v →
-        (o : Option Hit) × (look r image (m .info) (targetFor m oid) (m .root) .answer ≡ got o)
+    of : (a : Answer (Option Place)) → look r image (m .info) (targetFor m oid) (m .root) .answer ≡ a → on a (λ o. atOnce (mappingOf r image oid o)) .answer ≡ got v →
+        (o : Option Place) × (look r image (m .info) (targetFor m oid) (m .root) .answer ≡ got o)
     of (got o) h k = (o, h)
     of (no w) h k = absurd (let z : _≡_ {A = ℕ} 0 1 = cc in omega arith)
 

@@ -6,7 +6,7 @@ use Rattle.error.specs.Answer.{Answer, got, no}
 use Rattle.lookup.specs.Counted.{Counted, after, onto}
 use Rattle.btree.specs.Scan.{Run, scanOf}
 use Rattle.btree.specs.declared.entries.Search.{Search}
-use Rattle.btree.specs.declared.entries.Place.{Place}
+use Rattle.node.specs.declared.place.Place.{Place}
 use Rattle.obj.specs.declared.reader.Reader.{Reader}
 use Rattle.cursor.specs.Left.{runAt, inStep}
 use Rattle.cursor.specs.declared.steps.Step.{Step}

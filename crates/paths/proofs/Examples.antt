@@ -54,7 +54,7 @@ key-cased = refl
 
 -- entries 0 to 3 of a directory, by their ids: "A", "a", "a", and "ä"
 entry : ℕ → Entry
-entry n = record { place = record { block = 0; key = record { start = 0; len = 0 }; value = record { start = 0; len = 0 } }; name = record { start = 0; len = 0 }; «file_id» = n; «date_added» = 0; kind = 8 }
+entry n = record { place = record { block = 0; «key_off» = 0; «key_len» = 0; «val_off» = 0; «val_len» = 0 }; name = record { start = 0; len = 0 }; «file_id» = n; «date_added» = 0; kind = 8 }
 
 named : ℕ → List ℕ
 named zero = 65 ∷ []

@@ -7,7 +7,7 @@ use Rattle.error.specs.Answer.{Answer, got, no, _>>=_, ifEq}
 use Rattle.error.proofs.Laws.{same, other}
 use Rattle.error.specs.declared.Refusal.{Refusal}
 use Rattle.bytes.specs.declared.Span.{Span}
-use Rattle.btree.specs.declared.entries.Place.{Place}
+use Rattle.node.specs.declared.place.Place.{Place}
 use Rattle.btree.proofs.Laws as tree-laws
 use Rattle.bytes.specs.Part.{partOf, upToZero}
 use Rattle.bytes.proofs.Laws.{name-part}

@@ -10,8 +10,8 @@ use Rattle.bytes.specs.Part.{partOf, spanAt}
 use Rattle.bytes.specs.declared.Span.{Span}
 use Rattle.obj.specs.declared.reader.Reader.{Reader}
 use Rattle.obj.specs.Block.{blockOf}
-use Rattle.btree.specs.Entries.{keyOf, valueOf}
-use Rattle.btree.specs.declared.entries.Place.{Place}
+use Rattle.node.specs.Place.{keySpan, valueSpan, keyOf, valueOf}
+use Rattle.node.specs.declared.place.Place.{Place}
 use Rattle.names.specs.Name.{nameOf, nameBytes}
 use Rattle.records.specs.declared.attribute.Attribute.{Attribute}
 use Rattle.records.specs.declared.attribute.AttributeData.{AttributeData}
@@ -58,7 +58,7 @@ attributeValue p key value =
 
 -- the attribute of a record in the block b
 unfoldable pub attributeOf : List ℕ → Place → Answer Attribute
-attributeOf b p = attributeValue p (partOf b (p .key)) (partOf b (p .value))
+attributeOf b p = attributeValue p (partOf b (keySpan p)) (partOf b (valueSpan p))
 
 unfoldable pub attributeAt : Reader → List ℕ → Place → Answer Attribute
 attributeAt r b p = attributeOf (blockOf r b (p .block)) p

@@ -11,8 +11,8 @@ use Rattle.bytes.specs.declared.Span.{Span}
 use Rattle.utf8.specs.Text.{Reading, reading}
 use Rattle.obj.specs.declared.reader.Reader.{Reader}
 use Rattle.obj.specs.Block.{blockOf}
-use Rattle.btree.specs.Entries.{keyOf}
-use Rattle.btree.specs.declared.entries.Place.{Place}
+use Rattle.node.specs.Place.{keySpan, valueSpan, keyOf}
+use Rattle.node.specs.declared.place.Place.{Place}
 use Rattle.records.specs.declared.directory.Entry.{Entry}
 use Rattle.records.specs.declared.directory.EntryRead.{EntryRead}
 use Rattle.records.specs.declared.directory.EntryRead.the-variants.{Got, No}
@@ -47,7 +47,7 @@ entryValue p name value =
 
 -- the entry of a record in the block b, the name before the value (fs.rs, `read_dir`)
 unfoldable pub entryOf : Bool → List ℕ → Place → Answer Entry
-entryOf hashed b p = nameIn hashed (partOf b (p .key)) >>= λ name. entryValue p name (partOf b (p .value))
+entryOf hashed b p = nameIn hashed (partOf b (keySpan p)) >>= λ name. entryValue p name (partOf b (valueSpan p))
 
 unfoldable pub entryAt : Bool → Reader → List ℕ → Place → Answer Entry
 entryAt hashed r b p = entryOf hashed (blockOf r b (p .block)) p

@@ -6,7 +6,8 @@ use Rattle.bytes.specs.Number.{numberAt}
 use Rattle.bytes.specs.Part.{partOf}
 use Rattle.obj.specs.Block.{blockOf}
 use Rattle.obj.specs.declared.reader.Reader.{Reader}
-use Rattle.btree.specs.declared.entries.Place.{Place}
+use Rattle.node.specs.Place.{keySpan, valueSpan}
+use Rattle.node.specs.declared.place.Place.{Place}
 use Rattle.records.specs.declared.extent.Extent.{Extent}
 use Rattle.records.specs.declared.extent.ExtentRead.{ExtentRead}
 use Rattle.records.specs.declared.extent.ExtentRead.the-variants.{Got, No}
@@ -25,7 +26,7 @@ extentIn key value =
 
 -- the extent of a record in the block b
 unfoldable pub extentOf : List ℕ → Place → Answer Extent
-extentOf b p = extentIn (partOf b (p .key)) (partOf b (p .value))
+extentOf b p = extentIn (partOf b (keySpan p)) (partOf b (valueSpan p))
 
 unfoldable pub extentAt : Reader → List ℕ → Place → Answer Extent
 extentAt r b p = extentOf (blockOf r b (p .block)) p

@@ -1,7 +1,4 @@
 // An extended attribute (`j_xattr_key_t` and `j_xattr_val_t`).
-use btree::Place;
-use btree::key_of;
-use btree::value_of;
 use bytes::Number;
 use bytes::Sliced;
 use bytes::Span;
@@ -13,6 +10,11 @@ use error::Refusal;
 use names::Name;
 use names::name_bytes;
 use names::name_of;
+use node::Place;
+use node::key_in;
+use node::key_of;
+use node::value_in;
+use node::value_of;
 use obj::Reader;
 ghost use mathlib.Core.Path.{_≡_};
 ghost use Rattle.records.specs.Attribute.{attributeTold, dataTold, streamIn, dataIn, withName, attributeValue, attributeOf, attributeName, attributeBytes};
@@ -124,7 +126,7 @@ fn attribute_in(place: Place, key: &[u8], value: &[u8]) -> AttributeRead
 pub fn attribute_of(b: &[u8], place: Place) -> AttributeRead
     ensures { λ r. ⌜ attributeTold r ≡ attributeOf (now (b .entry)) place ⌝ }
 {
-    attribute_in(place, part(b, place.key), part(b, place.value))
+    attribute_in(place, key_in(b, place), value_in(b, place))
 }
 
 // The bytes of an attribute's name.

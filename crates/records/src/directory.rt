@@ -1,6 +1,4 @@
 // A directory entry (`j_drec_key_t` or `j_drec_hashed_key_t`, and `j_drec_val_t`).
-use btree::Place;
-use btree::key_of;
 use bytes::Number;
 use bytes::Sliced;
 use bytes::Span;
@@ -11,6 +9,9 @@ use bytes::u32_at;
 use bytes::u64_at;
 use error::Refusal;
 use names::name_of;
+use node::Place;
+use node::key_in;
+use node::key_of;
 use obj::Reader;
 ghost use mathlib.Core.Path.{_≡_};
 ghost use Prim.Native.Nat.{_+_};
@@ -109,8 +110,8 @@ fn value_in(place: Place, name: Span, value: &[u8]) -> EntryRead
 pub fn entry_of(b: &[u8], place: Place, hashed: bool) -> EntryRead
     ensures { λ r. ⌜ entryTold r ≡ entryOf hashed (now (b .entry)) place ⌝ }
 {
-    match name_in(part(b, place.key), hashed) {
-        Sliced::Got(name) => value_in(place, name, part(b, place.value)),
+    match name_in(key_in(b, place), hashed) {
+        Sliced::Got(name) => value_in(place, name, node::value_in(b, place)),
         Sliced::No(e) => EntryRead::No(e),
     }
 }

@@ -1,9 +1,10 @@
 // A file extent (`j_file_extent_key_t` and `j_file_extent_val_t`).
-use btree::Place;
 use bytes::Number;
-use bytes::part;
 use bytes::u64_at;
 use error::Refusal;
+use node::Place;
+use node::key_in;
+use node::value_in;
 ghost use mathlib.Core.Path.{_≡_};
 ghost use Rattle.records.specs.Extent.{extentTold, extentIn, extentOf};
 
@@ -45,5 +46,5 @@ fn extent_in(key: &[u8], value: &[u8]) -> ExtentRead
 pub fn extent_of(b: &[u8], place: Place) -> ExtentRead
     ensures { λ r. ⌜ extentTold r ≡ extentOf (now (b .entry)) place ⌝ }
 {
-    extent_in(part(b, place.key), part(b, place.value))
+    extent_in(key_in(b, place), value_in(b, place))
 }

@@ -9,7 +9,7 @@ use Rattle.error.specs.Answer.{Answer, got, no}
 use Rattle.error.proofs.Laws.{at-most, above}
 use Rattle.lookup.specs.Counted.{Counted, after, from, onto}
 use Rattle.btree.specs.Scan.{Run, more, end, refused, scanOf}
-use Rattle.btree.specs.declared.entries.Place.{Place}
+use Rattle.node.specs.declared.place.Place.{Place}
 use Rattle.volume.specs.declared.Volume.{Volume}
 use Rattle.records.specs.Extent.{extentAt}
 use Rattle.records.specs.declared.extent.Extent.{Extent}

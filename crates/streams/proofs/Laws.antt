@@ -13,7 +13,7 @@ use Rattle.error.proofs.Laws.{at-most, above, same, other}
 use Rattle.lookup.specs.Counted.{Counted, after, onto}
 use Rattle.btree.specs.Scan.{Run, scanOf}
 use Rattle.btree.specs.declared.entries.Search.{Search}
-use Rattle.btree.specs.declared.entries.Place.{Place}
+use Rattle.node.specs.declared.place.Place.{Place}
 use Rattle.cursor.specs.Left.{runAt, inStep}
 use Rattle.cursor.specs.declared.steps.Step.{Step}
 use Rattle.volume.specs.declared.Volume.{Volume}

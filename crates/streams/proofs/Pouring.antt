@@ -19,7 +19,7 @@ use Rattle.text.proofs.Digits.{pairs-append, pairs-join}
 use Rattle.text.proofs.Writing.{puts-append, stopped}
 use Rattle.btree.specs.Scan.{scanOf}
 use Rattle.btree.specs.declared.entries.Search.{Search}
-use Rattle.btree.specs.declared.entries.Place.{Place}
+use Rattle.node.specs.declared.place.Place.{Place}
 use Rattle.cursor.specs.Left.{left, runAt, inStep, Begins}
 use Rattle.cursor.specs.declared.steps.Step.{Step}
 use Rattle.volume.specs.declared.Volume.{Volume}

@@ -8,7 +8,7 @@ use Rattle.error.specs.Answer.{Answer, got, no, _>>=_, ifLe, ifEq}
 use Rattle.error.specs.declared.Refusal.the-variants.{Corrupt}
 use Rattle.lookup.specs.Counted.{Counted, after, onto}
 use Rattle.btree.specs.Scan.{Run, more, end, refused, scanOf}
-use Rattle.btree.specs.declared.entries.Place.{Place}
+use Rattle.node.specs.declared.place.Place.{Place}
 use Rattle.volume.specs.declared.Volume.{Volume}
 use Rattle.records.specs.Extent.{extentAt}
 use Rattle.records.specs.declared.extent.Extent.{Extent}

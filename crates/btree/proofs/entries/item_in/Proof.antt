@@ -1,4 +1,5 @@
 use borrow.Author.Needs.{needs}
+use Rattle.node.proofs.Places.{small-entry}
 use Rattle.btree.specs.Entries.{itemIn}
 use Rattle.btree.proofs.Laws.{all, parts}
 use Rattle.btree.proofs.entries.item_in.Statement.{statement}
@@ -16,12 +17,12 @@ item-in-spec =
     (λ c. search needs)
     (λ c. search needs)
     (λ c. search needs)
-    (λ c κs. search needs)
+    (λ c κs. search (all, parts, small-entry))
     (λ c. search needs)
     (λ c. search needs)
     (λ c. search needs)
-    (λ c. search (all, parts))
-    (λ c. search (all, parts))
-    (λ c. search (all, parts))
-    (λ c. search (all, parts))
-    (λ c. search (all, parts)))
+    (λ c. search (all, parts, small-entry))
+    (λ c. search (all, parts, small-entry))
+    (λ c. search (all, parts, small-entry))
+    (λ c. search (all, parts, small-entry))
+    (λ c. search (all, parts, small-entry)))

@@ -8,6 +8,7 @@ record-of-spec =
     tie.close
     (tie.spec
     (λ c. search needs)
+    (λ c κs. search needs)
     (λ c. search needs)
-    (λ c. search (record-there, record-missing))
-    (λ c. search (record-there, record-missing)))
+    (λ c. search (needs, record-there, record-missing))
+    (λ c. search (needs, record-there, record-missing)))
