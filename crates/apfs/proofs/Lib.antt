@@ -9,3 +9,4 @@ pub mod Opened
 pub mod Checkpoints
 pub mod WrongWords
 pub mod Measured
+pub mod Marked

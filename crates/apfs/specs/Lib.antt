@@ -3,3 +3,4 @@ pub mod Opened
 pub mod Checkpoints
 pub mod WrongWords
 pub mod Measured
+pub mod Marked

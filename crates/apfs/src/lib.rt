@@ -1,6 +1,7 @@
 // The calls that a host makes: each on the image, numbers and one output buffer. Each first finds the part of the image that a
 // container is in, and reads that as its whole image: document 02, request 01.
 mod answer;
+mod bookmarks;
 mod earlier;
 mod object;
 mod on_part;
@@ -18,6 +19,10 @@ use crate::on_part::read_part;
 use crate::on_part::replaced_part;
 use crate::on_part::xattr_bytes_part;
 use crate::on_part::xattr_part;
+pub use bookmarks::apfs_mark;
+pub use bookmarks::apfs_mark_at;
+pub use bookmarks::apfs_marked;
+pub use bookmarks::apfs_marked_at;
 use checkpoints::Choice;
 pub use earlier::apfs_checkpoints;
 pub use earlier::apfs_entries_at;

@@ -1,0 +1,4 @@
+pub mod Mark
+pub mod Record
+pub mod Texts
+pub mod Leads
