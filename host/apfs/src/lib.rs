@@ -1,11 +1,13 @@
 //! The calls that the port exports, made safe. Each answers how many bytes it wrote to `out`, or
 //! minus the refusal's number; `checkpoints` and `wrong_words` answer how many entries.
 //!
-//! Without a feature the crate is empty: `open` has opening, its checkpoints, the part that is opened and what is said of an object, `calls` also
-//! the calls on a volume.
+//! Without a feature the crate is empty: `open` has opening, its checkpoints, the part that is opened and what is said of
+//! an object, `calls` also the calls on a volume and on bookmarks.
 
 #[cfg(feature = "calls")]
 pub mod calls;
+#[cfg(feature = "calls")]
+pub mod marks;
 #[cfg(feature = "open")]
 mod object;
 #[cfg(feature = "open")]

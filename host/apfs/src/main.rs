@@ -8,15 +8,17 @@
 //! apfs xattr IMAGE PATH [NAME]    the attributes; with a name, its bytes
 //! apfs list IMAGE                 the listing of a whole volume
 //! apfs measure IMAGE              how many bytes that listing has, and its greatest depth, the root's being 0
+//! apfs mark IMAGE ID KIND PLACE   the bookmark of the record after PLACE others of an id and a kind
+//! apfs marked IMAGE MARK          the key and the value that a bookmark leads to
 //! apfs words IMAGE BLOCK          of a block that fails its checksum, each place where one other word would mend it
 //! apfs checkpoints IMAGE          the transaction numbers of the checkpoints, one a line, the latest first
 //! ```
 //!
 //! An image is of a stick with a GUID partition table, or of an APFS partition alone. `--volume N` names another volume
 //! than the first, which is 0, and `--checkpoint N` another checkpoint than the latest, so that the stick is read as it
-//! was then; `--block-size N` says how long the block of `words` is, which is else 4,096. Refusals go to standard error, and the exit status is then 1; it is 2 where the arguments are wrong. A
-//! listing is measured first, and has as much room as it needs; sparse files may ask for more than 4,294,967,295 bytes,
-//! which is refusal 14.
+//! was then; `--block-size N` says how long the block of `words` is, which is else 4,096. Refusals go to standard error,
+//! and the exit status is then 1; it is 2 where the arguments are wrong. A listing is measured first, and has as much
+//! room as it needs; sparse files may ask for more than 4,294,967,295 bytes, which is refusal 14.
 //!
 //! Behind a name of which bytes are damaged `ls`, `stat` and `xattr` say how many parts of it are shown as U+FFFD, as in
 //! `(2 damaged)`; a U+FFFD that was typed is none of them.
@@ -26,11 +28,13 @@ mod tool;
 use std::ffi::OsString;
 use std::io::{stdout, BufWriter, ErrorKind, Write};
 use std::process::exit;
+use std::str::FromStr;
 
 use apfs::calls::Which;
 use tool::ask::Asked;
 use tool::failure::Failure;
-use tool::{cat, checkpoints, list, ls, measure, sample, stat, usage, words, xattr};
+use tool::marks::Record;
+use tool::{cat, checkpoints, list, ls, marks, measure, sample, stat, usage, words, xattr};
 
 /// Of a block, where it is not said.
 const BLOCK: u64 = 4096;
@@ -58,20 +62,32 @@ fn arguments() -> Option<Arguments> {
     Some(out)
 }
 
+/// A number that a command takes.
+fn number<T: FromStr>(word: &OsString, command: &str) -> Result<T, Failure> {
+    word.to_str().and_then(|w| w.parse().ok()).ok_or_else(|| Failure::Usage(usage::of(command)))
+}
+
+fn record(id: &OsString, kind: &OsString, place: &OsString) -> Result<Record, Failure> {
+    let of = "mark";
+    Ok(Record { id: number(id, of)?, kind: number(kind, of)?, place: number(place, of)? })
+}
+
+fn bookmark(word: &OsString) -> Result<Vec<u8>, Failure> {
+    marks::read(word).ok_or_else(|| Failure::Usage(usage::of("marked")))
+}
+
 fn run(a: &Arguments, out: &mut dyn Write) -> Result<(), Failure> {
     let asked = |image: &OsString| Asked::of(image, Which { checkpoint: a.checkpoint, volume: a.volume.unwrap_or(0) });
     let at_latest = a.checkpoint.is_none() && a.volume.is_none();
     let plain = at_latest && a.block_size.is_none();
-    let number = |word: &OsString| {
-        let read = word.to_str().and_then(|w| w.parse().ok());
-        read.ok_or_else(|| Failure::Usage(usage::of("words")))
-    };
     let (name, words) = a.words.split_first().ok_or_else(|| Failure::Usage(usage::all()))?;
     match (name.to_str().unwrap_or_default(), words) {
         ("help" | "--help", []) => Ok(writeln!(out, "{}", usage::all())?),
         ("sample", [file]) if plain => sample::run(file, out),
         ("checkpoints", [image]) if plain => checkpoints::run(image, out),
-        ("words", [image, block]) if at_latest => words::run(image, number(block)?, a.block_size.unwrap_or(BLOCK), out),
+        ("words", [image, block]) if at_latest => {
+            words::run(image, number(block, "words")?, a.block_size.unwrap_or(BLOCK), out)
+        }
         (name, _) if a.block_size.is_some() => Err(Failure::Usage(usage::of(name))),
         ("ls", [image]) => ls::run(&asked(image)?, b"", out),
         ("ls", [image, path]) => ls::run(&asked(image)?, path.as_encoded_bytes(), out),
@@ -84,6 +100,14 @@ fn run(a: &Arguments, out: &mut dyn Write) -> Result<(), Failure> {
         }
         ("list", [image]) => list::run(&asked(image)?, out),
         ("measure", [image]) => measure::run(&asked(image)?, out),
+        ("mark", [image, id, kind, place]) => {
+            let record = record(id, kind, place)?;
+            marks::run(&asked(image)?, &record, out)
+        }
+        ("marked", [image, word]) if a.volume.is_none() => {
+            let mark = bookmark(word)?;
+            marks::marked(&asked(image)?, &mark, out)
+        }
         (name, _) => Err(Failure::Usage(usage::of(name))),
     }
 }

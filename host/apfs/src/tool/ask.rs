@@ -3,12 +3,13 @@
 use std::ffi::OsStr;
 
 use apfs::calls::{self, Which};
-use apfs::refusal;
+use apfs::{marks, refusal};
 
 use crate::tool::answer::{bytes, bytes_from, count, parsed, zeros, LONGEST};
 use crate::tool::attribute::Attribute;
 use crate::tool::container::{Container, Volume};
 use crate::tool::failure::Failure;
+use crate::tool::marks::Record;
 use crate::tool::measure::Measure;
 use crate::tool::name::{damaged, Name};
 use crate::tool::node::{Entry, Node};
@@ -18,6 +19,7 @@ use crate::tool::stick::{at, Stick};
 
 /// What a damaged part of a name reads as.
 const REPLACEMENT: char = '\u{fffd}';
+const PASSES: u64 = 1;
 const NOT_FOUND: u64 = 4;
 const PATH_NOT_UTF8: u64 = 5;
 /// Each call for entries goes through the whole directory, so it has room for many.
@@ -178,6 +180,30 @@ impl Asked {
         let n = count(calls::list(self.image(), self.which(self.volume), &mut text));
         text.truncate(n.map_err(|n| self.refused(&what, n))?);
         Ok(text)
+    }
+
+    /// The bookmark of a record.
+    pub fn bookmark(&self, r: &Record) -> Result<Vec<u8>, Failure> {
+        self.open_volume()?;
+        let what = format!("record {} of kind {} of id {}", r.place, r.kind, r.id);
+        let call = |out: &mut [u8]| marks::mark(self.image(), self.which(self.volume), r.id, r.kind, r.place, out);
+        let mark = bytes(marks::LENGTH, &call).map_err(|n| self.refused(&what, n))?;
+        if mark.is_empty() {
+            let advice = "records are counted from 0, those without a value left out";
+            return Err(Failure::Other(format!("{}: {what}: there is no such record; {advice}", self.place)));
+        }
+        Ok(mark)
+    }
+
+    /// The line of the record that a bookmark leads to. The container is open, so that 1 is said of the bookmark alone.
+    pub fn bookmarked(&self, mark: &[u8]) -> Result<Vec<u8>, Failure> {
+        const WORDS: &str = "its parts pass its block, or its block passes the stick";
+        let what = format!("{}: bookmark", self.place);
+        let line = bytes(LONGEST, &|out| marks::marked(self.image(), self.checkpoint, mark, out));
+        line.map_err(|n| match n {
+            PASSES => Failure::told(what, n, WORDS, "give one that was made of this stick"),
+            n => Failure::refused_at(self.checkpoint, what, n),
+        })
     }
 }
 

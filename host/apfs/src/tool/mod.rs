@@ -11,6 +11,7 @@ pub mod failure;
 mod image;
 pub mod list;
 pub mod ls;
+pub mod marks;
 pub mod measure;
 mod name;
 mod node;

@@ -56,7 +56,7 @@ fn before() -> Contents {
 }
 
 /// The sample, and as it was before at the checkpoint 99,999.
-fn saved() -> Vec<u8> {
+pub fn saved() -> Vec<u8> {
     let mut plan = twice();
     let volume = Volume { oid: 1033, first_node: 2000, contents: before(), ..plan.volumes[0].clone() };
     plan.volumes.push(volume);

@@ -25,6 +25,8 @@ fn a_short_file_is_named() {
     }
     assert_eq!(image.told(&["cat"], &["a"]), words);
     assert_eq!(image.told(&["xattr"], &["a", "b"]), words);
+    assert_eq!(image.told(&["mark"], &["2", "3", "0"]), words);
+    assert_eq!(image.told(&["marked"], &[&"0".repeat(48)]), words);
 }
 
 #[test]

@@ -6,6 +6,7 @@ mod checkpoints;
 mod damaged;
 mod errors;
 mod image;
+mod marks;
 mod measure;
 mod partitioned;
 mod sample;

@@ -7,6 +7,7 @@ pub mod large;
 mod names;
 mod otherwise;
 mod patched;
+pub mod places;
 mod proper;
 mod ring;
 mod sample;
