@@ -11,7 +11,7 @@ use compare::opening::{answer, Open};
 use compare::pairs::{self, by_oracle, Ports};
 use compare::volumes::Volumes;
 use compare::words;
-use compare::{bench, cases, checkpoints, list, maps, parts, reach, record, recorded, sample};
+use compare::{bench, cases, checkpoints, list, maps, marks, parts, reach, record, recorded, sample};
 
 use sticks::gpt::expected_part;
 
@@ -88,6 +88,9 @@ fn checkpoints_ports() -> Option<checkpoints::Ports<'static>> {
     #[cfg(not(feature = "calls"))]
     None
 }
+
+/// One stick of so many has all its records asked for by their marks.
+const OF_MARKS: u64 = 10;
 
 fn finish(name: &str, good: bool, words: &str) {
     if !good {
@@ -186,8 +189,16 @@ pub fn calls(seed: u64, count: u64) {
     print!("{}{}", run.tally, run.met);
     let missing = [run.tally.missing(), run.met.missing()].concat();
     let mut good = saw_all(!run.report_failure(calls_port(), Path::new("target")), missing);
+    good &= marks(seed, count / OF_MARKS);
     good &= vast(calls_port().map(calls::vast::check));
     finish("calls", good, if calls_port().is_some() { "all agree" } else { "the oracle alone was asked" });
+}
+
+/// Bookmarks of the records of sticks, and others that are handed in.
+fn marks(seed: u64, count: u64) -> bool {
+    let run = marks::run::Run::over(seed, count, calls_port());
+    print!("marks of {count} sticks, {} images, {} calls\n{}", run.images, run.tally.calls(), run.tally);
+    saw_all(!run.report_failure(calls_port(), Path::new("target")), run.tally.missing())
 }
 
 pub fn list(seed: u64, count: u64) {

@@ -3,7 +3,8 @@
 //! listings ([`list`]), all of these on images with a partition table ([`parts`]) and at earlier checkpoints
 //! ([`checkpoints`]), and of two sticks at a time ([`pairs`]). The Rust reads no table: it is given the part of an
 //! [`image`] that the table leads to. Its object maps are held against a walk over all their entries ([`maps`]),
-//! and the port's list of wrong words against its test of checksums ([`words`]).
+//! and the port's list of wrong words against its test of checksums ([`words`]); bookmarks lead to the records that its
+//! scan gives ([`marks`]).
 //!
 //! The comparison needs the oracle; without the published sources only [`port`], [`leaf`] and the
 //! file format of [`record`] are built.
@@ -26,6 +27,8 @@ pub mod leaf;
 pub mod list;
 #[cfg(oracle)]
 pub mod maps;
+#[cfg(oracle)]
+pub mod marks;
 #[cfg(oracle)]
 pub mod opening;
 #[cfg(oracle)]

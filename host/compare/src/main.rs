@@ -11,7 +11,7 @@
 //! cargo run --release -p compare -- sticks          open containers, whole and damaged
 //! cargo run --release -p compare -- sticks --seed 7 --count 20000
 //! cargo run --release -p compare -- volumes         open their volumes
-//! cargo run --release -p compare -- calls           the calls on their volumes
+//! cargo run --release -p compare -- calls           the calls on their volumes, and bookmarks of their records
 //! cargo run --release -p compare -- list            the listings of their volumes, and their measures
 //! cargo run --release -p compare -- parts           all of these on images with a partition table
 //! cargo run --release -p compare -- checkpoints     all of these at earlier checkpoints, and the list of those

@@ -7,6 +7,7 @@ use compare::calls::call::Call;
 use compare::calls::expected;
 use compare::image::Image;
 use compare::list;
+use compare::marks::handed::record;
 use compare::opening::answer::{self, Answer};
 use compare::pairs::by_oracle;
 use compare::parts::run::{vast, Run};
@@ -350,6 +351,22 @@ fn call(image: &[u8], volume: u64, call: &Call, out: &mut [u8]) -> i64 {
     }
 }
 
+/// A part in place of which a mark is held against the whole image.
+type Ground = fn(&[u8], &[u8]) -> Vec<u8>;
+
+/// The image itself, or the part as long as the image.
+const GROUNDS: [Ground; 2] =
+    [|image, _| image.to_vec(), |image, part| [part, &vec![0; image.len() - part.len()][..]].concat()];
+
+fn marked_on(ground: Ground, image: &[u8], volume: u64, asked: &Call, out: &mut [u8]) -> i64 {
+    let opened = answer::opened(&Image::of(image.to_vec()));
+    let (Call::Marked { mark }, Some((part, c))) = (asked, opened) else { return call(image, volume, asked, out) };
+    match record(&ground(image, &part), c.block_size().into(), mark) {
+        Ok(record) => fill(&record.line(), out, M::None),
+        Err(n) => -(n as i64),
+    }
+}
+
 /// The oracle's overflows are caught and counted; their messages need not be printed.
 fn silence_overflows() {
     let usual = std::panic::take_hook();
@@ -379,6 +396,17 @@ fn no_mistake_none_found() {
 fn every_mistake_is_found() {
     let missed: Vec<Mistake> = ALL.into_iter().filter(|&m| run(m).failure.is_none()).collect();
     assert_eq!(missed, []);
+}
+
+#[test]
+fn marks_held_against_the_whole_image_are_found() {
+    silence_overflows();
+    for ground in GROUNDS {
+        let call = |image: &[u8], volume: u64, call: &Call, out: &mut [u8]| marked_on(ground, image, volume, call, out);
+        let told = |image: &[u8], out: &mut [u8]| part(image, out, M::None);
+        let run = Run::over(7, ENOUGH, Some(Ports { part: &told, open: &open, call: &call, list: LISTS }));
+        assert!(run.failure.is_some_and(|f| f.words.contains("record marked by")));
+    }
 }
 
 #[test]

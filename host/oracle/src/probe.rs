@@ -71,6 +71,11 @@ pub fn tree_node(volume: &Volume, oid: u64) -> Result<Arc<Node>> {
     volume.fs_node(oid).map(|(node, _)| node)
 }
 
+/// The block that such a node stands in.
+pub fn tree_block(volume: &Volume, oid: u64) -> Result<u64> {
+    volume.fs_node(oid).map(|(_, block)| block)
+}
+
 pub fn block_count(container: &Container) -> u64 {
     container.r.block_count
 }

@@ -2,6 +2,8 @@
 
 use std::fmt;
 
+use crate::calls::line;
+
 #[derive(Clone, Debug, PartialEq, Eq)]
 pub enum Call {
     Lookup {
@@ -44,13 +46,25 @@ pub enum Call {
         id: u64,
         place: u64,
     },
+    /// The mark of the record after `place` others.
+    Mark {
+        id: u64,
+        kind: u8,
+        place: u64,
+    },
+    /// The record that a mark leads to, whatever the volume.
+    Marked {
+        mark: Vec<u8>,
+    },
 }
 
 pub const NAMES: [&str; 9] =
     ["lookup", "read", "entry", "entries", "xattr", "xattr_bytes", "link", "extent", "replaced"];
+/// Those of bookmarks, which have a run of their own.
+pub const MARKS: [&str; 2] = ["mark", "marked"];
 
 impl Call {
-    /// One of [`NAMES`].
+    /// One of [`NAMES`], or of [`MARKS`].
     pub fn name(&self) -> &'static str {
         match self {
             Call::Lookup { .. } => "lookup",
@@ -62,6 +76,8 @@ impl Call {
             Call::Link { .. } => "link",
             Call::Extent { .. } => "extent",
             Call::Replaced { .. } => "replaced",
+            Call::Mark { .. } => "mark",
+            Call::Marked { .. } => "marked",
         }
     }
 
@@ -82,6 +98,8 @@ impl fmt::Display for Call {
             Call::Entries { id, place, length } => write!(f, "entries of {id} from {place} on, {length} bytes"),
             Call::Link { id } => write!(f, "link of {id}"),
             Call::Replaced { kind, id, place } => write!(f, "replaced of kind {kind}, {place} of {id}"),
+            Call::Mark { id, kind, place } => write!(f, "mark of record {place} of kind {kind} of {id}"),
+            Call::Marked { mark } => write!(f, "record marked by {}", line::hex(mark)),
             Call::Entry { id, place }
             | Call::Xattr { id, place }
             | Call::XattrBytes { id, place }

@@ -86,12 +86,16 @@ impl Subject<'_> {
         }
     }
 
+    /// All names and records of a stick are asked about: so many that one buffer each is mostly enough.
+    fn is_one_of_many(&self) -> bool {
+        matches!(self.call, Call::Replaced { .. } | Call::Mark { .. } | Call::Marked { .. })
+    }
+
     pub fn check(&self, want: &Expected, random: &mut Random) -> Result<(), String> {
         let asked = self.call.room();
         match (&want.answer, asked) {
             (Answer::Bytes(b), Some(length)) => self.once(length, b.len() as i64, b),
-            // All names of a stick are asked about: so many that one buffer each is mostly enough.
-            (Answer::Bytes(b), None) if matches!(self.call, Call::Replaced { .. }) => self.line(b, random),
+            (Answer::Bytes(b), None) if self.is_one_of_many() => self.line(b, random),
             (Answer::Bytes(b), None) => self.text(b, random),
             (Answer::Refused(number), _) => {
                 let n = asked.unwrap_or_else(|| random.pick(&[0, 40, 300]));

@@ -9,6 +9,8 @@ use crate::calls::call::Call;
 use crate::calls::directory::{Account, Directories, Rule};
 use crate::calls::{line, names, replaced, stream};
 use crate::image::Image;
+use crate::marks::handed;
+use crate::marks::records::Records;
 use crate::opening::answer::{self, caught};
 use crate::opening::outside::outside;
 
@@ -56,14 +58,15 @@ impl Expected {
 
 /// Why there is no answer in bytes.
 pub enum Stop {
-    Oracle(Error),
+    /// The oracle refuses, with the number of the error's class.
+    Oracle(u64),
     Added(u64),
     Open(&'static str),
 }
 
 impl From<Error> for Stop {
     fn from(e: Error) -> Stop {
-        Stop::Oracle(e)
+        Stop::Oracle(probe::class(&e))
     }
 }
 
@@ -73,7 +76,7 @@ impl From<Told> for Expected {
     fn from(told: Told) -> Expected {
         let (answer, kind) = match told {
             Ok((bytes, kind)) => (Answer::Bytes(bytes), kind),
-            Err(Stop::Oracle(e)) => (Answer::Refused(probe::class(&e)), Kind::Refused(probe::class(&e))),
+            Err(Stop::Oracle(n)) => (Answer::Refused(n), Kind::Refused(n)),
             Err(Stop::Added(n)) => (Answer::Refused(n), Kind::Added(n)),
             Err(Stop::Open(why)) => (Answer::Any, Kind::Open(why)),
         };
@@ -109,15 +112,18 @@ pub fn told_by(rule: Rule, image: &Image, volume: u64, call: &Call) -> Expected 
     }
     match caught(|| answer::container(part)) {
         Ok(Ok(c)) => of_container(part, &c, volume, call, rule),
-        Ok(Err(e)) => Err(Stop::Oracle(e)).into(),
+        Ok(Err(e)) => Err(Stop::from(e)).into(),
         Err(a) => stopped(a, false),
     }
 }
 
 fn of_container(part: &[u8], c: &Container, volume: u64, call: &Call, rule: Rule) -> Expected {
+    if let Call::Marked { mark } = call {
+        return handed::told(part, c, mark).into();
+    }
     match caught(|| c.volume(volume as usize)) {
         Ok(Ok(v)) => of_volume(part, c, &Directories::of(&v, rule), call),
-        Ok(Err(e)) => Err(Stop::Oracle(e)).into(),
+        Ok(Err(e)) => Err(Stop::from(e)).into(),
         Err(a) => stopped(a, true),
     }
 }
@@ -134,6 +140,8 @@ pub fn of_volume(part: &[u8], c: &Container, dirs: &Directories, call: &Call) ->
         Call::Link { id } => link(part, c, v, *id),
         Call::Extent { id, place } => extent(v, *id, *place),
         Call::Replaced { kind, id, place } => replaced::of_volume(part, c, dirs, *kind, *id, *place),
+        Call::Mark { id, kind, place } => Records::of(part, c, v, (*id, *kind)).told(*place),
+        Call::Marked { mark } => handed::told(part, c, mark),
     });
     let expected = told.map_or_else(|a| stopped(a, true), Expected::from);
     Expected { account: dirs.take_account(), ..expected }

@@ -33,7 +33,7 @@ pub fn port(image: &[u8], volume: u64, call: &Call, out: &mut [u8]) -> i64 {
 /// At any checkpoint.
 #[cfg(feature = "calls")]
 pub fn port_of(image: &[u8], which: crate::port::calls::Which, call: &Call, out: &mut [u8]) -> i64 {
-    use crate::port::calls;
+    use crate::port::{calls, marks};
     match call {
         Call::Lookup { path } => calls::lookup(image, which, path, out),
         Call::Read { id, offset, .. } => calls::read(image, which, *id, *offset, out),
@@ -44,5 +44,7 @@ pub fn port_of(image: &[u8], which: crate::port::calls::Which, call: &Call, out:
         Call::Link { id } => calls::link(image, which, *id, out),
         Call::Extent { id, place } => calls::extent(image, which, *id, *place, out),
         Call::Replaced { kind, id, place } => calls::replaced(image, which, *kind, *id, *place, out),
+        Call::Mark { id, kind, place } => marks::mark(image, which, *id, *kind, *place, out),
+        Call::Marked { mark } => marks::marked(image, which.checkpoint, mark, out),
     }
 }

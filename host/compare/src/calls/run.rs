@@ -1,5 +1,6 @@
 //! A run over many sticks.
 
+use std::fmt;
 use std::path::Path;
 use std::sync::Arc;
 
@@ -36,6 +37,13 @@ pub struct Mismatch {
     pub call: Call,
     pub expected: Expected,
     pub got: String,
+}
+
+impl fmt::Display for Mismatch {
+    fn fmt(&self, f: &mut fmt::Formatter) -> fmt::Result {
+        let (kind, got) = (self.expected.kind, &self.got);
+        write!(f, "volume {}, {}: {kind} expected\nthe port: {got}", self.volume, self.call)
+    }
 }
 
 pub struct Failure {
@@ -97,12 +105,18 @@ impl Run {
 
     /// Prints the failure, if there was one, and writes its image, made smaller, to a file in `folder`.
     pub fn report_failure(&self, port: Option<Port>, folder: &Path) -> bool {
-        let Some(f) = &self.failure else { return false };
-        let m = &f.mismatch;
-        let file = folder.join(format!("calls-{}-{}-{}.img", f.seed, f.stick, f.damage));
-        println!("seed {}, stick {}, damage {}, volume {}: {}", f.seed, f.stick, f.damage, m.volume, m.call);
+        self.failure.as_ref().is_some_and(|f| f.report("calls", port, folder))
+    }
+}
+
+impl Failure {
+    /// True, so that a run tells that there was one.
+    pub fn report(&self, run: &str, port: Option<Port>, folder: &Path) -> bool {
+        let m = &self.mismatch;
+        let file = folder.join(format!("{run}-{}-{}-{}.img", self.seed, self.stick, self.damage));
+        println!("seed {}, stick {}, damage {}, volume {}: {}", self.seed, self.stick, self.damage, m.volume, m.call);
         println!("expected: {}\nthe port: {}", shown(&m.expected), m.got);
-        let image = smaller(&f.image, m, port);
+        let image = smaller(&self.image, m, port);
         match std::fs::create_dir_all(folder).and_then(|()| std::fs::write(&file, &image)) {
             Ok(()) => println!("{} bytes that show it: {}", image.len(), file.display()),
             Err(e) => println!("{}: {e}", file.display()),
@@ -212,12 +226,22 @@ impl Trial<'_> {
     fn judge(&mut self, volume: u64, call: Call, want: Expected) -> Checked {
         self.tally.count(&call, want.kind);
         self.tally.account(&call, &want);
-        let image = &self.image.whole;
-        let checked = match (self.port, &want.answer) {
-            (Some(port), _) => Subject { port, image, volume, call: &call }.check(&want, &mut self.random),
-            (None, Answer::Panic(m)) => Err(format!("the oracle panicked: {m}")),
-            (None, _) => Ok(()),
-        };
-        checked.map_err(|got| Box::new(Mismatch { volume, call, expected: want, got }))
+        judged(self.port, &self.image.whole, (volume, call), want, &mut self.random)
     }
+}
+
+/// Holds a call on an image and a volume against what is expected; without a port the oracle is asked alone.
+pub fn judged(
+    port: Option<Port>,
+    image: &[u8],
+    (volume, call): (u64, Call),
+    want: Expected,
+    random: &mut Random,
+) -> Checked {
+    let checked = match (port, &want.answer) {
+        (Some(port), _) => Subject { port, image, volume, call: &call }.check(&want, random),
+        (None, Answer::Panic(m)) => Err(format!("the oracle panicked: {m}")),
+        (None, _) => Ok(()),
+    };
+    checked.map_err(|got| Box::new(Mismatch { volume, call, expected: want, got }))
 }

@@ -6,6 +6,7 @@ use crate::calls::check::Subject;
 use crate::calls::draw;
 use crate::calls::expected::{Answer, Expected, Kind};
 use crate::calls::Port;
+use crate::marks;
 use sticks::random::Random;
 
 const LARGEST: usize = 1 << 34;
@@ -37,7 +38,7 @@ pub fn over(on: Agreed) -> Result<Option<u64>, String> {
 fn on(port: Port, image: &[u8], number: u64) -> Result<u64, String> {
     let mut random = Random::new(number);
     let want = Expected::new(Answer::Refused(number), Kind::Added(number));
-    let calls = [draw::each(&mut random), draw::each_name(&mut random)].concat();
+    let calls = [draw::each(&mut random), draw::each_name(&mut random), marks::draw::each(&mut random)].concat();
     for call in &calls {
         let checked = Subject { port, image, volume: 0, call }.check(&want, &mut random);
         checked.map_err(|e| format!("an image of {} bytes, {call}: {e}", image.len()))?;

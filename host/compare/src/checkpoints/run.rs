@@ -15,6 +15,8 @@ use crate::checkpoints::Ports;
 use crate::image::Image;
 use crate::list;
 use crate::list::walk;
+use crate::marks::trial::{self as marks, Share};
+use crate::marks::Mark;
 use crate::opening;
 use crate::opening::check::{any, call, TOO_SHORT};
 use crate::opening::outside::outside;
@@ -82,7 +84,7 @@ impl Run {
             let stick = small(&mut random);
             let image = image(&stick, &mut random);
             run.tally.images += 1;
-            let mut trial = Trial { image: &image, ports, random, tally: &mut run.tally };
+            let mut trial = Trial { image: &image, ports, random, strange: Vec::new(), tally: &mut run.tally };
             if let Err(words) = trial.all(&stick) {
                 run.failure = Some(Failure { seed, stick: place, words, image: image.whole });
                 return run;
@@ -109,6 +111,8 @@ struct Trial<'a> {
     image: &'a Image,
     ports: Option<Ports<'a>>,
     random: Random,
+    /// Marks of the number before.
+    strange: Vec<Mark>,
     tally: &'a mut Tally,
 }
 
@@ -222,7 +226,8 @@ impl Trial<'_> {
         let image = image_at(self.image, xid, bit);
         self.open(&image, xid)?;
         self.calls(&image, &as_of(stick, xid), xid, random.fork())?;
-        self.listing(&image, xid, random)
+        self.listing(&image, xid, random.clone())?;
+        self.marks(&image, xid, random)
     }
 
     fn open(&mut self, image: &Image, xid: u64) -> Checked {
@@ -243,8 +248,25 @@ impl Trial<'_> {
         let mut trial = calls::run::Trial { image: image.clone(), port, random, tally, met };
         let thorough = trial.random.chance(1, 2);
         let checked = if thorough { trial.stick(stick) } else { trial.each(0) };
-        checked
-            .map_err(|m| format!("volume {}, {}: {} expected\nthe port: {}", m.volume, m.call, m.expected.kind, m.got))
+        checked.map_err(|m| m.to_string())
+    }
+
+    fn marks(&mut self, image: &Image, xid: u64, random: Random) -> Checked {
+        let ports = self.ports;
+        let at = |image: &[u8], volume: u64, call: &calls::call::Call, out: &mut [u8]| {
+            ports.map_or(0, |p| (p.call)(image, xid, volume, call, out))
+        };
+        let port: Option<calls::Port> = if ports.is_some() { Some(&at) } else { None };
+        let (strange, tally) = (&self.strange, &mut self.tally.marks);
+        let mut trial = marks::Trial { image, port, random, share: Share::Some, strange, found: Vec::new(), tally };
+        let thorough = trial.random.chance(1, 2);
+        let checked = if thorough { trial.all() } else { trial.each(0) };
+        let found = trial.found;
+        checked.map_err(|m| m.to_string())?;
+        if thorough {
+            self.strange = found;
+        }
+        Ok(())
     }
 
     fn listing(&mut self, image: &Image, xid: u64, random: Random) -> Checked {

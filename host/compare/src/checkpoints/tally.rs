@@ -3,7 +3,7 @@
 use std::collections::BTreeMap;
 use std::fmt;
 
-use crate::{calls, list, opening};
+use crate::{calls, list, marks, opening};
 
 pub const ONE: &str = "of one number";
 pub const SEVERAL: &str = "of several numbers";
@@ -40,6 +40,7 @@ pub struct Tally {
     pub opening: opening::tally::Tally,
     pub calls: calls::tally::Tally,
     pub list: list::tally::Tally,
+    pub marks: marks::tally::Tally,
 }
 
 impl Tally {
@@ -71,7 +72,7 @@ impl Tally {
         let listed = self.list.answered > 0 && self.list.refused.contains_key(&13);
         let measured = self.list.measures.got > 0 && self.list.measures.refused.contains_key(&13);
         let whole = [(listed, "list"), (measured, "measure")].into_iter().filter(|k| !k.0).map(|k| k.1.to_string());
-        calls.chain(whole).collect()
+        calls.chain(whole).chain(self.marks.missing_of(&[13])).collect()
     }
 }
 
@@ -87,6 +88,7 @@ impl fmt::Display for Tally {
         writeln!(f, "numbers: {}; a spoiled block shows at {}", words(&self.numbers), self.showing)?;
         writeln!(f, "opening: {}", self.opening)?;
         write!(f, "{}", self.calls)?;
-        write!(f, "{}", self.list)
+        write!(f, "{}", self.list)?;
+        write!(f, "{}", self.marks)
     }
 }

@@ -43,8 +43,7 @@ impl From<Walked> for End {
             Ok(()) => End::Whole,
             Err(Halt::More) => End::More,
             Err(Halt::LongLine) => End::LongLine,
-            Err(Halt::Stop(Stop::Oracle(e))) => End::Refused(probe::class(&e)),
-            Err(Halt::Stop(Stop::Added(n))) => End::Refused(n),
+            Err(Halt::Stop(Stop::Oracle(n) | Stop::Added(n))) => End::Refused(n),
             Err(Halt::Stop(Stop::Open(why))) => End::Open(why),
         }
     }

@@ -1,4 +1,4 @@
-//! Nodes of a map's tree by their bytes: Apple File System Reference, "B-Trees", and document 01, btree.rs.
+//! Nodes of a tree by their bytes: Apple File System Reference, "B-Trees", and document 01, btree.rs.
 
 use std::ops::Range;
 
@@ -92,18 +92,34 @@ impl<'a> Node<'a> {
         self.flags & LEAF != 0
     }
 
-    /// Whether it is the root of a map's tree, by what it says of the tree.
-    pub fn is_map_root(&self) -> bool {
-        let info = |at: usize| number(self.bytes, self.values_end + at, 4);
-        let sizes = (info(8), info(12)) == (Some(KEY as u64), Some(VALUE as u64));
-        self.flags & ROOT != 0 && sizes && info(0).is_some_and(|flags| flags & PHYSICAL_TREE != 0)
+    /// What a root says of its tree: the number at a place of its last bytes.
+    fn info(&self, at: usize) -> Option<u64> {
+        number(self.bytes, self.values_end + at, 4).filter(|_| self.flags & ROOT != 0)
     }
 
-    /// The `i`-th entry, where all of it stands in the block.
+    /// Bytes of keys and values in the nodes of one size, by the tree's root.
+    pub fn sizes(&self) -> Option<(usize, usize)> {
+        Some((self.info(8)? as usize, self.info(12)? as usize))
+    }
+
+    /// Whether it is the root of a map's tree, by what it says of the tree.
+    pub fn is_map_root(&self) -> bool {
+        self.sizes() == Some((KEY, VALUE)) && self.info(0).is_some_and(|flags| flags & PHYSICAL_TREE != 0)
+    }
+
+    /// The `i`-th entry of a map's node, where all of it stands in the block.
     pub fn spans(&self, i: usize) -> Option<Spans> {
+        self.spans_of(i, (KEY, VALUE))
+    }
+
+    /// The same in a tree whose nodes of one size have keys and values of these sizes.
+    pub fn spans_of(&self, i: usize, sizes: (usize, usize)) -> Option<Spans> {
+        if i >= self.count {
+            return None;
+        }
         let word = |at: usize| number(self.bytes, self.table.start + at, 2).map(|n| n as usize);
         let (key, key_length, value, value_length) = if self.flags & FIXED != 0 {
-            (word(4 * i)?, KEY, word(4 * i + 2)?, if self.is_leaf() { VALUE } else { CHILD })
+            (word(4 * i)?, sizes.0, word(4 * i + 2)?, if self.is_leaf() { sizes.1 } else { CHILD })
         } else {
             (word(8 * i)?, word(8 * i + 2)?, word(8 * i + 4)?, word(8 * i + 6)?)
         };

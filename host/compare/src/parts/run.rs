@@ -11,6 +11,7 @@ use crate::calls::met::Met;
 use crate::calls::{self, vast};
 use crate::image::Image;
 use crate::list;
+use crate::marks::trial::{self as marks, Share};
 use crate::opening;
 use crate::opening::answer::Answer;
 use crate::opening::check::check;
@@ -148,7 +149,8 @@ impl Trial<'_> {
             .map_err(|m| format!("opening: the oracle: {}\nthe port: {}", m.expected, m.got))?;
         self.own()?;
         self.calls(stick)?;
-        self.list()
+        self.list()?;
+        self.marks()
     }
 
     fn part(&self, image: &[u8], part: &Result<(usize, usize), u8>) -> Checked {
@@ -181,8 +183,22 @@ impl Trial<'_> {
             met: &mut Met::default(),
         };
         let checked = if thorough { trial.stick(stick) } else { trial.each(0) };
-        checked
-            .map_err(|m| format!("volume {}, {}: {} expected\nthe port: {}", m.volume, m.call, m.expected.kind, m.got))
+        checked.map_err(|m| m.to_string())
+    }
+
+    fn marks(&mut self) -> Checked {
+        let thorough = self.random.chance(1, THOROUGH);
+        let mut trial = marks::Trial {
+            image: self.image,
+            port: self.ports.map(|p| p.call),
+            random: self.random.fork(),
+            share: Share::Some,
+            strange: &[],
+            found: Vec::new(),
+            tally: &mut self.tally.marks,
+        };
+        let checked = if thorough { trial.all() } else { trial.each(0) };
+        checked.map_err(|m| m.to_string())
     }
 
     fn list(&mut self) -> Checked {

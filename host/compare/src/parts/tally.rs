@@ -6,7 +6,7 @@ use std::fmt;
 use sticks::gpt::{kinds, Kind};
 
 use crate::calls::directory::Account;
-use crate::{calls, list, opening};
+use crate::{calls, list, marks, opening};
 
 /// Of containers in a part.
 const OPENING: [u64; 6] = [1, 2, 3, 4, 11, 12];
@@ -21,6 +21,7 @@ pub struct Tally {
     pub opening: opening::tally::Tally,
     pub calls: calls::tally::Tally,
     pub list: list::tally::Tally,
+    pub marks: marks::tally::Tally,
 }
 
 impl Default for Tally {
@@ -32,6 +33,7 @@ impl Default for Tally {
             opening: Default::default(),
             calls: Default::default(),
             list: Default::default(),
+            marks: Default::default(),
         }
     }
 }
@@ -64,7 +66,7 @@ impl Tally {
         let m = &self.list.measures;
         let measured = m.got > 0 && [4, 11, 12].iter().all(|n| m.refused.contains_key(n));
         let whole = [(listed, "list"), (measured, "measure")].into_iter().filter(|k| !k.0).map(|k| k.1.to_string());
-        calls.chain(whole).chain(self.missing_accounts()).collect()
+        calls.chain(whole).chain(self.missing_accounts()).chain(self.marks.missing_of(&[11, 12])).collect()
     }
 
     /// Some calls are to read directories by the reference, answered and refused.
@@ -89,6 +91,7 @@ impl fmt::Display for Tally {
         }
         writeln!(f, "opening: {}", self.opening)?;
         write!(f, "{}", self.calls)?;
-        write!(f, "{}", self.list)
+        write!(f, "{}", self.list)?;
+        write!(f, "{}", self.marks)
     }
 }

@@ -63,6 +63,8 @@ impl Asked {
                 "read" => "read_at",
                 "list" => "list_at",
                 "measure" => "measure_at",
+                "mark" => "mark_at",
+                "marked" => "marked_at",
                 name => unreachable!("{name} is not recorded at a checkpoint"),
             },
         }

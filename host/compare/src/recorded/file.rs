@@ -1,8 +1,9 @@
 //! The form of the file.
 //!
 //! A record is: op and refusal (1 byte each), volume, a, b (8 each), the buffer's length, the count that is answered, the
-//! CRC-32C register of all the buffer after the call, the input's length (4 each), the input: a path, an object, or a name's kind
-//! or a transaction number (8); a transaction number is a where a says nothing else. Numbers are little-endian. An op of 0 ends the file.
+//! CRC-32C register of all the buffer after the call, the input's length (4 each), the input: a path, an object, a mark,
+//! or a name's or a record's kind and a transaction number (8 each); a transaction number is a where a says nothing else.
+//! Numbers are little-endian. An op of 0 ends the file.
 
 use sticks::sums::crc32c;
 
@@ -85,6 +86,10 @@ pub fn has_op(asked: &Asked) -> bool {
     coded(asked).is_some()
 }
 
+fn eight(n: impl Into<u64>) -> Vec<u8> {
+    n.into().to_le_bytes().to_vec()
+}
+
 /// Op, a, b and input.
 fn coded(asked: &Asked) -> Option<(u8, u64, u64, Vec<u8>)> {
     let none = Vec::new();
@@ -97,11 +102,13 @@ fn coded(asked: &Asked) -> Option<(u8, u64, u64, Vec<u8>)> {
         Asked::Call(Call::Link { id }) => (8, *id, 0, none),
         Asked::Call(Call::Extent { id, place }) => (9, *id, *place, none),
         Asked::List => (10, 0, 0, none),
-        Asked::Call(Call::Replaced { kind, id, place }) => (11, *id, *place, kind.to_le_bytes().to_vec()),
+        Asked::Call(Call::Replaced { kind, id, place }) => (11, *id, *place, eight(*kind)),
         Asked::Checkpoints => (12, 0, 0, none),
         Asked::At(xid, asked) => return coded_at(*xid, asked),
         Asked::WrongWords(object) => (17, 0, 0, object.clone()),
         Asked::Measure => (18, 0, 0, none),
+        Asked::Call(Call::Mark { id, kind, place }) => (20, *id, *place, eight(*kind)),
+        Asked::Call(Call::Marked { mark }) => (22, 0, 0, mark.clone()),
         Asked::Call(Call::Entries { .. } | Call::XattrBytes { .. }) => return None,
     })
 }
@@ -112,8 +119,10 @@ fn coded_at(xid: u64, asked: &Asked) -> Option<(u8, u64, u64, Vec<u8>)> {
         Asked::Open => (13, xid, 0, Vec::new()),
         Asked::Call(Call::Lookup { path }) => (14, xid, 0, path.clone()),
         Asked::List => (15, xid, 0, Vec::new()),
-        Asked::Call(Call::Read { id, offset, .. }) => (16, *id, *offset, xid.to_le_bytes().to_vec()),
+        Asked::Call(Call::Read { id, offset, .. }) => (16, *id, *offset, eight(xid)),
         Asked::Measure => (19, xid, 0, Vec::new()),
+        Asked::Call(Call::Mark { id, kind, place }) => (21, *id, *place, [eight(*kind), eight(xid)].concat()),
+        Asked::Call(Call::Marked { mark }) => (23, xid, 0, mark.clone()),
         _ => return None,
     })
 }

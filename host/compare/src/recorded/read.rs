@@ -55,6 +55,10 @@ fn eight(input: &[u8]) -> Result<u64, String> {
     input.try_into().map(u64::from_le_bytes).map_err(|_| format!("a number of {} bytes", input.len()))
 }
 
+fn kind(n: u64) -> Result<u8, String> {
+    n.try_into().map_err(|_| format!("a kind {n}"))
+}
+
 fn asked(op: u8, a: u64, b: u64, room: usize, input: &[u8]) -> Result<Asked, String> {
     Ok(match op {
         3 => Asked::Open,
@@ -74,6 +78,14 @@ fn asked(op: u8, a: u64, b: u64, room: usize, input: &[u8]) -> Result<Asked, Str
         17 => Asked::WrongWords(input.to_vec()),
         18 => Asked::Measure,
         19 => Asked::At(a, Box::new(Asked::Measure)),
+        20 => Asked::Call(Call::Mark { id: a, kind: kind(eight(input)?)?, place: b }),
+        21 => {
+            let (first, second) = input.split_at(input.len().min(8));
+            let call = Call::Mark { id: a, kind: kind(eight(first)?)?, place: b };
+            Asked::At(eight(second)?, Box::new(Asked::Call(call)))
+        }
+        22 => Asked::Call(Call::Marked { mark: input.to_vec() }),
+        23 => Asked::At(a, Box::new(Asked::Call(Call::Marked { mark: input.to_vec() }))),
         _ => return Err(format!("no op {op}")),
     })
 }

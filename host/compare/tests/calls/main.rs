@@ -6,6 +6,7 @@
 mod directories;
 mod lines;
 mod listing;
+mod marks;
 mod measure;
 mod numbers;
 mod recorded;

@@ -43,12 +43,14 @@ enum Slip {
     LatestCalled,
     LatestListed,
     LatestMeasured,
+    LatestMarked,
+    LatestHandedTo,
     LowHalf,
 }
 
 use Slip as S;
 
-const ALL: [Slip; 24] = [
+const ALL: [Slip; 26] = [
     S::Ascending,
     S::RingOrder,
     S::RepeatsDropped,
@@ -72,6 +74,8 @@ const ALL: [Slip; 24] = [
     S::LatestCalled,
     S::LatestListed,
     S::LatestMeasured,
+    S::LatestMarked,
+    S::LatestHandedTo,
     S::LowHalf,
 ];
 
@@ -171,7 +175,12 @@ fn filled(out: &mut [u8], bytes: &[u8]) -> i64 {
 /// By the oracle, which knows no mistake but to read the latest checkpoint.
 fn call_at(image: &[u8], x: u64, volume: u64, call: &Call, out: &mut [u8], slip: Slip) -> i64 {
     let image = Image::of(image.to_vec());
-    let at = if slip == S::LatestCalled { image } else { image_at(&image, x, 1) };
+    let latest = match call {
+        Call::Mark { .. } => slip == S::LatestMarked,
+        Call::Marked { .. } => slip == S::LatestHandedTo,
+        _ => slip == S::LatestCalled,
+    };
+    let at = if latest { image } else { image_at(&image, x, 1) };
     match expected::of_image(&at, volume, call).answer {
         Answer::Bytes(b) if b.len() > out.len() => -6,
         Answer::Bytes(b) => filled(out, &b),

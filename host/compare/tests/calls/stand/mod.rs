@@ -2,6 +2,7 @@
 
 mod files;
 pub mod list;
+pub mod marks;
 pub mod measure;
 pub mod mistake;
 mod names;
@@ -72,6 +73,7 @@ impl Stand<'_> {
             Call::Link { id } => self.link(*id),
             Call::Extent { id, place } => self.extent(*id, *place),
             Call::Replaced { kind, id, place } => self.replaced(*kind, *id, *place),
+            Call::Mark { .. } | Call::Marked { .. } => unreachable!("they have a stand-in of their own"),
         }
     }
 }
@@ -111,15 +113,21 @@ pub fn answer(last: &Last, image: &[u8], volume: u64, call: &Call, out: &mut [u8
     if matches!((m, call), (M::KindFirst, Call::Replaced { kind, .. }) if *kind > 4) {
         return -4;
     }
+    let found = with_opened(last, image, |opened| bytes(opened, volume, call, out, m));
+    finish(found, matches!(call, Call::Read { .. }), out, m)
+}
+
+/// Opens the image, unless it is the last.
+fn with_opened<T>(last: &Last, image: &[u8], f: impl FnOnce(&Answer<Opened>) -> T) -> T {
     let of = (image.as_ptr(), image.len());
     let mut last = last.borrow_mut();
     let opened = match last.take() {
         Some((at, n, c)) if (at, n) == of => c,
         _ => open(image),
     };
-    let found = bytes(&opened, volume, call, out, m);
+    let out = f(&opened);
     *last = Some((of.0, of.1, opened));
-    finish(found, matches!(call, Call::Read { .. }), out, m)
+    out
 }
 
 fn finish(found: Answer<Vec<u8>>, read: bool, out: &mut [u8], m: Mistake) -> i64 {
