@@ -25,7 +25,8 @@ fn every_export_and_refusal_is_there() {
     let seen: BTreeSet<(&str, u8)> = recorded().iter().map(|r| (r.question.asked.name(), r.answer.0)).collect();
     let latest = ["open", "lookup", "read", "entry", "xattr", "link", "extent", "list", "replaced"];
     let others = ["checkpoints", "open_at", "lookup_at", "read_at", "list_at", "wrong_words", "measure", "measure_at"];
-    for name in latest.into_iter().chain(others) {
+    let marks = ["mark", "mark_at", "marked", "marked_at"];
+    for name in latest.into_iter().chain(others).chain(marks) {
         let known: &[u8] = match name {
             "checkpoints" => &[0, 1, 2, 3, 6, 8, 11],
             "open_at" => &[0, 1, 2, 3, 6, 8, 11, 13],
@@ -35,6 +36,10 @@ fn every_export_and_refusal_is_there() {
             "wrong_words" => &[0, 6],
             "measure" => &[0, 1, 2, 3, 4, 6, 8, 10, 11, 14],
             "measure_at" => &[0, 4, 6, 13],
+            "mark" => &[0, 1, 2, 3, 4, 6, 8, 11, 12],
+            "mark_at" => &[0, 4, 6, 13],
+            "marked" => &[0, 1, 2, 3, 6, 8, 11, 12],
+            "marked_at" => &[0, 1, 6, 13],
             "open" => &[0, 1, 2, 3, 4, 6, 8, 11, 12],
             "lookup" => &[0, 1, 2, 3, 4, 5, 6, 8, 9, 11, 12],
             "read" => &[0, 1, 2, 3, 4, 8],
@@ -45,6 +50,30 @@ fn every_export_and_refusal_is_there() {
         let missing: Vec<&u8> = known.iter().filter(|n| !seen.contains(&(name, **n))).collect();
         assert!(missing.is_empty(), "{name}: {missing:?}");
     }
+}
+
+/// Of bookmarks here already, and of all else by the replay.
+#[cfg(feature = "calls")]
+#[test]
+fn the_port_answers_of_bookmarks_as_is_recorded() {
+    use compare::calls::call::Call::{Mark, Marked};
+    use compare::calls::check::pattern;
+    use compare::calls::port_of;
+    use compare::port::calls::Which;
+    use compare::recorded::asked::Asked;
+
+    let agrees = |r: &Recorded| {
+        let (checkpoint, asked) = match &r.question.asked {
+            Asked::At(xid, asked) => (Some(*xid), &**asked),
+            asked => (None, asked),
+        };
+        let Asked::Call(call @ (Mark { .. } | Marked { .. })) = asked else { return true };
+        let mut out = pattern(r.question.room);
+        let which = Which { checkpoint, volume: r.question.volume };
+        r.holds(port_of(&r.image, which, call, &mut out), &out)
+    };
+    let wrong: Vec<String> = recorded().iter().filter(|r| !agrees(r)).map(|r| r.question.to_string()).collect();
+    assert_eq!(wrong, Vec::<String>::new());
 }
 
 #[test]

@@ -1,9 +1,11 @@
 //! Document 01's cases and those of partition tables, patched names, directory keys, checkpoints, wrong words, a
-//! listing's totals and its measure, each with what the papers say of it, and small sticks that show them.
+//! listing's totals and its measure, and bookmarks, each with what the papers say of it, and small sticks that show them.
 
 mod checkpoints;
 mod keys;
 mod listing;
+mod marked;
+mod marks;
 mod measure;
 mod names;
 mod opening;
@@ -158,6 +160,11 @@ pub fn of_totals() -> Vec<Group> {
 /// Those of request 09.
 pub fn of_measures() -> Vec<Group> {
     measure::groups()
+}
+
+/// Those of request 10.
+pub fn of_marks() -> Vec<Group> {
+    [marks::groups(), marked::groups()].into_iter().flatten().collect()
 }
 
 /// An error tells each case that the oracle answers otherwise.
