@@ -263,6 +263,7 @@ pub fn bench() {
     answer::silence_panics();
     print!("{}", bench::opening::run(port()));
     print!("{}", bench::calls::run(calls_port()));
+    print!("{}", bench::marks::run(calls_port()));
     print!("{}", bench::listing::run(list_ports()));
     print!("{}", bench::parts::run(parts_ports()));
     print!("{}", bench::checkpoints::run(checkpoints_ports()));

@@ -39,7 +39,7 @@ fn check(port: Option<Port>, image: &Arc<Vec<u8>>, call: &Call) {
 }
 
 /// Times the calls one after the other; `by_oracle` makes one of them on an open volume.
-fn timed(
+pub fn timed(
     what: &str,
     contents: Contents,
     calls: &[Call],

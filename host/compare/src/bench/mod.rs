@@ -4,6 +4,7 @@ pub mod calls;
 pub mod checkpoints;
 mod clock;
 pub mod listing;
+pub mod marks;
 pub mod opening;
 pub mod parts;
 pub mod words;
