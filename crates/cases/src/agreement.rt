@@ -19,7 +19,7 @@ fn kind_of(op: u8, refusal: u8) -> usize {
     if op < 3 {
         return 0;
     }
-    if 19 < op {
+    if 23 < op {
         return 0;
     }
     if 18 < refusal {
@@ -28,7 +28,7 @@ fn kind_of(op: u8, refusal: u8) -> usize {
     (op - 3) as usize * 19 + refusal as usize
 }
 
-pub fn counted(t: Tally, r: Record, same: bool, kinds: &mut [u64; 323]) -> Tally {
+pub fn counted(t: Tally, r: Record, same: bool, kinds: &mut [u64; 399]) -> Tally {
     if !same {
         return Tally {
             titled: t.titled,
@@ -38,7 +38,7 @@ pub fn counted(t: Tally, r: Record, same: bool, kinds: &mut [u64; 323]) -> Tally
         };
     }
     let k = kind_of(r.op, r.refusal);
-    if k < 323 {
+    if k < 399 {
         kinds[k] = one_more(kinds[k]);
     }
     Tally {
@@ -73,7 +73,11 @@ fn print_export_at(op: usize) -> bool {
         13 => io::write_all(1, b"apfs_read_at: "),
         14 => io::write_all(1, b"apfs_wrong_words: "),
         15 => io::write_all(1, b"apfs_measure: "),
-        _ => io::write_all(1, b"apfs_measure_at: "),
+        16 => io::write_all(1, b"apfs_measure_at: "),
+        17 => io::write_all(1, b"apfs_mark: "),
+        18 => io::write_all(1, b"apfs_mark_at: "),
+        19 => io::write_all(1, b"apfs_marked: "),
+        _ => io::write_all(1, b"apfs_marked_at: "),
     }
 }
 
@@ -109,9 +113,9 @@ fn print_kind(op: usize, refusal: usize, n: u64) {
     io::print_decimal(1, refusal as u64);
 }
 
-pub fn print_kinds(kinds: &[u64; 323]) {
+pub fn print_kinds(kinds: &[u64; 399]) {
     let mut k = 0;
-    while k < 323 {
+    while k < 399 {
         print_kind(k / 19, k % 19, kinds[k]);
         k += 1;
         if k % 19 == 0 {

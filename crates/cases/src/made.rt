@@ -9,6 +9,10 @@ use apfs::apfs_list;
 use apfs::apfs_list_at;
 use apfs::apfs_lookup;
 use apfs::apfs_lookup_at;
+use apfs::apfs_mark;
+use apfs::apfs_mark_at;
+use apfs::apfs_marked;
+use apfs::apfs_marked_at;
 use apfs::apfs_measure;
 use apfs::apfs_measure_at;
 use apfs::apfs_open;
@@ -30,6 +34,26 @@ fn written_on(out: &mut [u8]) {
     }
 }
 
+// A bookmark handed out or in: the input is the record's kind and a transaction number, or the bookmark.
+fn made_marked(r: Record, image: &[u8], input: &[u8], out: &mut [u8]) -> i64 {
+    let op = r.op;
+    let kind = (value(bytes::u64_at(input, 0)) % 256) as u8;
+    match op {
+        20 => apfs_mark(image, r.volume, r.a, kind, r.b, out),
+        21 => apfs_mark_at(
+            image,
+            value(bytes::u64_at(input, 8)),
+            r.volume,
+            r.a,
+            kind,
+            r.b,
+            out,
+        ),
+        22 => apfs_marked(image, input, out),
+        _ => apfs_marked_at(image, r.a, input, out),
+    }
+}
+
 // At an earlier checkpoint, the list of them, an object's wrong words, or how long a listing will be: the input is a path,
 // a transaction number or the object.
 fn made_at(r: Record, image: &[u8], input: &[u8], out: &mut [u8]) -> i64 {
@@ -42,7 +66,7 @@ fn made_at(r: Record, image: &[u8], input: &[u8], out: &mut [u8]) -> i64 {
         17 => apfs_wrong_words(input, out),
         18 => apfs_measure(image, r.volume, out),
         19 => apfs_measure_at(image, r.a, r.volume, out),
-        _ => apfs_read_at(
+        16 => apfs_read_at(
             image,
             value(bytes::u64_at(input, 0)),
             r.volume,
@@ -50,6 +74,7 @@ fn made_at(r: Record, image: &[u8], input: &[u8], out: &mut [u8]) -> i64 {
             r.b,
             out,
         ),
+        _ => made_marked(r, image, input, out),
     }
 }
 
@@ -109,7 +134,7 @@ pub fn agrees(r: Record, image: &[u8], input: &[u8], out: &mut [u8]) -> bool {
     if r.op < 3 {
         return false;
     }
-    if 19 < r.op {
+    if 23 < r.op {
         return false;
     }
     if out.len() < room {

@@ -32,7 +32,7 @@ fn gone_through(
     t: Tally,
     image: &mut [u8],
     out: &mut [u8],
-    kinds: &mut [u64; 323],
+    kinds: &mut [u64; 399],
 ) -> Tally {
     let op = r.op;
     if op == TITLE {
@@ -76,7 +76,7 @@ fn filled(input: &mut [u8], len: usize) -> bool {
 }
 
 // Whether the file was gone through to its end.
-fn replay(input: &mut [u8], image: &mut [u8], out: &mut [u8], kinds: &mut [u64; 323]) -> bool {
+fn replay(input: &mut [u8], image: &mut [u8], out: &mut [u8], kinds: &mut [u64; 399]) -> bool {
     let mut tally = Tally {
         titled: false,
         agree: 0,
@@ -104,7 +104,7 @@ fn replay(input: &mut [u8], image: &mut [u8], out: &mut [u8], kinds: &mut [u64; 
 fn replay_into(image: &mut [u8]) {
     let mut input = [0u8; 65536];
     let mut out = [0u8; 65536];
-    let mut kinds = [0u64; 323];
+    let mut kinds = [0u64; 399];
     let whole = replay(&mut input, image, &mut out, &mut kinds);
     print_kinds(&kinds);
     if !whole {
