@@ -52,6 +52,19 @@ module _ (b : List ℕ) (m : Node) (info : Info) (id kind i : ℕ) (whole : InLe
 
 pub ruleset inside = (needs, in-done, in-pass, in-stop, in-at, in-no)
 
+-- the entry after a record lies behind, and within the leaf
+module _ (b : List ℕ) (m : Node) (info : Info) (id kind : ℕ) (p : Place) (a : ℕ) where
+  bound-step : (n i : ℕ) → suc n ≡ m .nkeys - i → (x : Answer Leaf) (k : InLeaf) → (k ≡ At p a → (i + 1 < a) × (a ≤ m .nkeys)) → itemThen x (i + 1) k ≡ At p a → (i < a) × (a ≤ m .nkeys)
+  bound-step n i h (got passOver) k e g = (omega (arith, e g), omega (arith, e g))
+  bound-step n i h (got endScan) k e g = absurd (let z : _≡_ {A = ℕ} 0 1 = cc in omega arith)
+  bound-step n i h (got (recordAt y)) k e g = let z : i + 1 ≡ a = cc in (omega arith, omega arith)
+  bound-step n i h (no w) k e g = absurd (let z : _≡_ {A = ℕ} 0 1 = cc in omega arith)
+
+  pub bound-in : (n i : ℕ) → n ≡ m .nkeys - i → inLeaf b m info id kind n i ≡ At p a → (i < a) × (a ≤ m .nkeys)
+  unfolding inLeaf
+  bound-in zero i h e = absurd (let z : _≡_ {A = ℕ} 0 1 = cc in omega arith)
+  bound-in (suc n) i h e = bound-step n i h (itemIn b m info id kind i) (inLeaf b m info id kind n (i + 1)) (bound-in n (i + 1) (omega arith)) e
+
 -- the first record that an entry, or what comes after it, gives
 module _ (b : List ℕ) (q : Search) (m : Node) (n i : ℕ) (h : suc n ≡ m .nkeys - i) where
   abbrev later : InLeaf
@@ -64,12 +77,6 @@ module _ (b : List ℕ) (q : Search) (m : Node) (n i : ℕ) (h : suc n ≡ m .nk
   leaf-step s k (got endScan) e = refl
   leaf-step s k (got (recordAt p)) e = let j : n ≡ m .nkeys - (i + 1) = omega arith in ap (λ (x : ℕ). more p s (leafFrom b q m x (i + 1) s k)) j
   leaf-step s k (no w) e = refl
-
-  bound-step : (p : Place) (a : ℕ) (x : Answer Leaf) → (later ≡ At p a → (i + 1 < a) × (a ≤ m .nkeys)) → itemThen x (i + 1) later ≡ At p a → (i < a) × (a ≤ m .nkeys)
-  bound-step p a (got passOver) e g = (omega (arith, e g), omega (arith, e g))
-  bound-step p a (got endScan) e g = absurd (let z : _≡_ {A = ℕ} 0 1 = cc in omega arith)
-  bound-step p a (got (recordAt y)) e g = let z : i + 1 ≡ a = cc in (omega arith, omega arith)
-  bound-step p a (no w) e g = absurd (let z : _≡_ {A = ℕ} 0 1 = cc in omega arith)
 
   back-step : (p : Place) (a : ℕ) (x : Answer Leaf) → itemAt b q m i ≡ x → (later ≡ At p a → inNode b q m (a - 1) ≡ At p a) → itemThen x (i + 1) later ≡ At p a → inNode b q m (a - 1) ≡ At p a
   unfolding inLeaf
@@ -87,11 +94,6 @@ module _ (b : List ℕ) (q : Search) (m : Node) where
   leaf-by zero i s k h = refl
   leaf-by (suc n) i s k h = leaf-step b q m n i h s k (itemAt b q m i) (leaf-by n (i + 1) s k (omega arith))
 
-  bound-by : (n i : ℕ) (p : Place) (a : ℕ) → n ≡ m .nkeys - i → inLeaf (bytesOf b q m) m (q .keys .info) (q .keys .id) (q .keys .kind) n i ≡ At p a → (i < a) × (a ≤ m .nkeys)
-  unfolding inLeaf
-  bound-by zero i p a h e = absurd (let z : _≡_ {A = ℕ} 0 1 = cc in omega arith)
-  bound-by (suc n) i p a h e = bound-step b q m n i h p a (itemAt b q m i) (bound-by n (i + 1) p a (omega arith)) e
-
   back-by : (n i : ℕ) (p : Place) (a : ℕ) → n ≡ m .nkeys - i → inLeaf (bytesOf b q m) m (q .keys .info) (q .keys .id) (q .keys .kind) n i ≡ At p a → inNode b q m (a - 1) ≡ At p a
   unfolding inLeaf
   back-by zero i p a h e = absurd (let z : _≡_ {A = ℕ} 0 1 = cc in omega arith)
@@ -100,10 +102,10 @@ module _ (b : List ℕ) (q : Search) (m : Node) where
   pub leaf-in : (i s : ℕ) (k : Run) → leafFrom b q m (m .nkeys - i) i s k ≡ inThen b q m (inNode b q m i) s k
   leaf-in i s k = leaf-by (m .nkeys - i) i s k refl
 
-  -- the entry after a record lies behind, and within the leaf; looking from the record's own entry finds it again
   pub in-bound : (i : ℕ) (p : Place) (a : ℕ) → inNode b q m i ≡ At p a → (i < a) × (a ≤ m .nkeys)
-  in-bound i p a e = bound-by (m .nkeys - i) i p a refl e
+  in-bound i p a e = bound-in (bytesOf b q m) m (q .keys .info) (q .keys .id) (q .keys .kind) p a (m .nkeys - i) i refl e
 
+  -- looking from the record's own entry finds it again
   pub in-back : (i : ℕ) (p : Place) (a : ℕ) → inNode b q m i ≡ At p a → inNode b q m (a - 1) ≡ At p a
   in-back i p a e = back-by (m .nkeys - i) i p a refl e
 

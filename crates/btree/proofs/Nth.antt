@@ -1,5 +1,5 @@
 -- A run's k-th record at the turns of a node, where k follows: nth of what is left is nth of the whole.
-use Prim.Native.Nat.{ℕ, zero, suc, _+_, _-_, _≤_, _<_}
+use Prim.Native.Nat.{ℕ, zero, suc, _-_, _≤_, _<_}
 use mathlib.Core.Path.{_≡_, refl, sym, ap, _∙_}
 use mathlib.Core.List.{List}
 use mathlib.Core.Option.{Option, none, some}
@@ -13,7 +13,9 @@ use Rattle.node.specs.Node.{leafBit}
 use Rattle.node.specs.declared.layout.Node.{Node}
 use Rattle.lookup.specs.Counted.{Counted, after}
 use Rattle.btree.specs.Scan.{Run, more, end, refused, Tail, scanOf, nth, foundTold}
-use Rattle.btree.specs.Inner.{leafFrom, inNode, each, Reaches, node, child, walk, met, passTold, foundOf}
+use Rattle.btree.specs.Inner.{leafFrom, inLeaf, inNode, each, Reaches, node, child, walk, met, passTold, foundOf}
+use Rattle.btree.specs.Entries.{bytesOf}
+use Rattle.btree.specs.declared.entries.Keys.{Keys}
 use Rattle.btree.specs.declared.entries.Search.{Search}
 use Rattle.node.specs.declared.place.Place.{Place}
 use Rattle.btree.specs.declared.entries.Found.{Found}
@@ -24,7 +26,7 @@ use Rattle.btree.specs.declared.seek.Turn.the-variants as turn
 use Rattle.btree.specs.declared.skip.Pass.{Pass}
 use Rattle.btree.specs.declared.skip.Pass.the-variants.{At, Left, End, No}
 use Rattle.btree.specs.declared.skip.Passed.{Passed}
-use Rattle.btree.proofs.Leaves.{in-bound}
+use Rattle.btree.proofs.Leaves.{bound-in}
 use Rattle.btree.proofs.Turns.{leaf-passed, leaf-end, leaf-at, leaf-no, each-over, each-stop, each-into, each-no, node-leaf, node-index, child-lowest, child-off, child-on, root-low, root-high}
 
 -- a refusal at the root
@@ -71,9 +73,14 @@ module _ (b : List ℕ) (q : Search) (m : Node) (i n s : ℕ) (k : Run) (whole :
     pub pass-past : (n ≡ 0 → ⊥) → nth (n - 1) (leafFrom b q m (m .nkeys - a) a s k) ≡ whole
     pass-past z = nth-past n _ _ _ whole there z
 
--- the entries that are left of a leaf grow fewer
-pub leaf-less : (b : List ℕ) (q : Search) (m : Node) (i : ℕ) (r : InLeaf) (x : Place) (a : ℕ) → r ≡ inNode b q m i → r ≡ leaf.At x a → m .nkeys - a < m .nkeys - i
-leaf-less b q m i r x a t e = let low = in-bound b q m i x a (sym t ∙ e) in omega (arith, low)
+-- a leaf in the block c, of whatever image and search it is
+module _ (c : List ℕ) (j : Keys) (m : Node) (i : ℕ) (r : InLeaf) (t : r ≡ inLeaf c m (j .info) (j .id) (j .kind) (m .nkeys - i) i) where
+  pub in-that : (b : List ℕ) (q : Search) → j ≡ q .keys → c ≡ bytesOf b q m → r ≡ inNode b q m i
+  in-that b q e f = rw (e, f) at t
+
+  -- the entries that are left grow fewer
+  pub leaf-less : (x : Place) (a : ℕ) → r ≡ leaf.At x a → m .nkeys - a < m .nkeys - i
+  leaf-less x a e = let low = bound-in c m (j .info) (j .id) (j .kind) x a (m .nkeys - i) i refl (sym t ∙ e) in omega (arith, low)
 
 pub ruleset leaves = (needs, pass-over, pass-end, pass-no, pass-here, pass-past, leaf-less)
 

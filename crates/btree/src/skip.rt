@@ -1,9 +1,10 @@
 // The record of a scan after a number of others: a recursion on the falling level that passes on how many remain to skip.
 use crate::entries::Found;
+use crate::entries::Keys;
 use crate::entries::Scanned;
 use crate::entries::Search;
 use crate::leaf::InLeaf;
-use crate::leaf::next_in;
+use crate::leaf::in_leaf;
 use crate::seek::Turn;
 use crate::seek::next_child;
 use arith::tick;
@@ -11,8 +12,12 @@ use error::Refusal;
 use node::Node;
 use node::Place;
 ghost use mathlib.Core.Path.{_≡_};
-ghost use Prim.Native.Nat.{ℕ, _-_};
+ghost use Prim.Native.Nat.{ℕ, _-_, _<_, _^_};
+ghost use mathlib.Core.List.{List};
+ghost use lib.ListN.{length};
+ghost use Rattle.btree.specs.Entries.{bytesOf};
 ghost use Rattle.btree.specs.Scan.{Run, Tail, scanOf, nth, scannedTold};
+ghost use Rattle.btree.specs.declared.entries.Search.{Search};
 ghost use Rattle.btree.specs.Inner.{leafFrom, walk, child, met, passTold, foundOf};
 
 // Left: the part is passed, with as many still to skip.
@@ -37,13 +42,15 @@ fn pass_of(pass: Pass, nodes: u64) -> Passed
     }
 }
 
-fn pass_leaf(image: &[u8], q: Search, node: Node, skip: u64) -> Pass
-    ensures { λ r. ⌜ ((s : ℕ) (k : Run) → met r s k ≡ nth skip (leafFrom (now (image .entry)) q node (node .nkeys - 0) 0 s k)) ⌝ }
+// The records of a leaf in the block b. Any image that has that block there will do.
+fn pass_in(b: &[u8], k: Keys, node: Node, skip: u64) -> Pass
+    requires { ⌜ length (now b) < 2 ^ 32 ⌝ }
+    ensures { λ r. ⌜ ((image : List ℕ) (q : Search) → k ≡ q .keys → now (b .entry) ≡ bytesOf image q node → (s : ℕ) (t : Run) → met r s t ≡ nth skip (leafFrom image q node (node .nkeys - 0) 0 s t)) ⌝ }
 {
     let mut left = skip;
     let mut i: u32 = 0;
     loop {
-        match next_in(image, q.keys, node, i) {
+        match in_leaf(b, node, k.info, k.id, k.kind, i) {
             InLeaf::Passed => return Pass::Left(left),
             InLeaf::End => return Pass::End,
             InLeaf::No(e) => return Pass::No(e),
@@ -56,6 +63,13 @@ fn pass_leaf(image: &[u8], q: Search, node: Node, skip: u64) -> Pass
             }
         }
     }
+}
+
+fn pass_leaf(image: &[u8], q: Search, node: Node, skip: u64) -> Pass
+    ensures { λ r. ⌜ ((s : ℕ) (k : Run) → met r s k ≡ nth skip (leafFrom (now (image .entry)) q node (node .nkeys - 0) 0 s k)) ⌝ }
+{
+    let k = q.keys;
+    pass_in(k.reader.block(image, node.block), k, node, skip)
 }
 
 fn pass_node(image: &[u8], q: Search, level: u16, node: Node, skip: u64, nodes: u64) -> Passed
