@@ -118,6 +118,9 @@ module _ (image : List ℕ) (v : Volume) (id kind : ℕ) (z : Sized image (v .re
     val-len-fits = omega (arith, value-lies, z .high);
   }
 
+  pub low : (p .«key_off» ≤ 65536) × (p .«val_off» ≤ 65536)
+  low = (omega (arith, key-lies, z .high), omega (arith, value-lies, z .high))
+
   pub read-back : placeIn (markBytes p) ≡ p
   read-back = mark-back p fields
 
@@ -158,6 +161,7 @@ leads = record {
         handed-out = text-of image w id kind place s v (some p) o n;
         long = mark-length p;
         back = read-back image v id kind z p x;
+        offsets = low image v id kind z p x;
         handed-back = rw (t .opened, t .reader, handed image v id kind z p x) (ap got (shown-line image v id kind z p x));
       };
   past = λ image w id kind place s v o n. text-of image w id kind place s v none o n;

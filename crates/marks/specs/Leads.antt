@@ -1,5 +1,5 @@
 -- What bookmarks promise, of any image, checkpoint and volume. Document 02, request 10. Proved in proofs/Leads.antt and proofs/Refuses.antt.
-use Prim.Native.Nat.{ℕ, _+_, _*_, _<_}
+use Prim.Native.Nat.{ℕ, _+_, _*_, _≤_, _<_}
 use mathlib.Core.Path.{_≡_}
 use mathlib.Core.List.{List, [], _∷_}
 use mathlib.Core.Logic.{_⊎_}
@@ -31,6 +31,8 @@ pub record Held (image : List ℕ) (w : Which) (id kind place : ℕ) (v : Volume
   pub handed-out : markText image w id kind place ≡ got (markBytes p)
   pub long : length (markBytes p) ≡ 24
   pub back : placeIn (markBytes p) ≡ p
+  -- "Offsets run from 0 to 65,536"
+  pub offsets : (p .«key_off» ≤ 65536) × (p .«val_off» ≤ 65536)
   pub handed-back : markedText (w .checkpoint) image (markBytes p)
       ≡ got (ascii "(record" (words (bytes (keyOf (v .reader) image p) ∷ bytes (valueOf (v .reader) image p) ∷ []) (ascii ")\n" [])))
 
