@@ -9,6 +9,7 @@ use Rattle.bytes.specs.Number.{told}
 use Rattle.lookup.specs.Counted.{Counted}
 use Rattle.text.specs.declared.Position.{Position}
 use Rattle.text.specs.declared.Position.the-variants.{At, No}
+use Rattle.calls.specs.declared.Progress.{Progress}
 use Rattle.calls.specs.declared.Written.{Written}
 
 -- how many bytes were written, or the refusal; and the buffer
@@ -54,3 +55,6 @@ answered c b = record { nodes = c .nodes; result = filledBy (c .answer) b }
 -- what such a call says, and the buffer as it leaves it
 abbrev pub writtenTold : Written → List ℕ → Answered
 writtenTold r b = record { nodes = r .nodes; result = record { answer = told (r .count); buffer = b } }
+
+abbrev pub calledBy : Progress → List ℕ → Answered
+calledBy r b = record { nodes = r .nodes; result = filledAt (r .at) b }

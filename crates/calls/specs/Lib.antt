@@ -1,2 +1,3 @@
 pub mod Filled
 pub mod OnVolume
+pub mod Nodes
