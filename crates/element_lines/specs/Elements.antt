@@ -23,16 +23,24 @@ entryShow image v (some e) = entryLine (entryShown (v .reader) image e) []
 unfoldable pub entryOn : List ℕ → Volume → ℕ → ℕ → ℕ → Counted (List ℕ)
 entryOn image v id place s = onto (placed place (entriesOf image v id s)) λ o t. after t (got (entryShow image v o))
 
+-- the line of an entry by its place, with the nodes gone through: document 02, request 06
+unfoldable pub entryCounted : List ℕ → Which → ℕ → ℕ → Counted (List ℕ)
+entryCounted image w id place = onVolume (λ v s. entryOn image v id place s) image w
+
 -- what `apfs_entry` answers
-unfoldable pub entryText : List ℕ → Which → ℕ → ℕ → Answer (List ℕ)
-entryText image w id place = onVolume (λ v s. entryOn image v id place s) image w
+abbrev pub entryText : List ℕ → Which → ℕ → ℕ → Answer (List ℕ)
+entryText image w id place = entryCounted image w id place .answer
 
 unfoldable pub lookupOn : List ℕ → Volume → List ℕ → ℕ → Counted (List ℕ)
 lookupOn image v path s = onto (lookupPath image v path s) λ i t. after t (got (nodeLine (inodeShown (v .reader) image i) []))
 
+-- the line of an inode by its path, with the nodes gone through: document 02, request 06
+unfoldable pub lookupCounted : List ℕ → Which → List ℕ → Counted (List ℕ)
+lookupCounted image w path = onVolume (λ v s. lookupOn image v path s) image w
+
 -- what `apfs_lookup` answers
-unfoldable pub lookupText : List ℕ → Which → List ℕ → Answer (List ℕ)
-lookupText image w path = onVolume (λ v s. lookupOn image v path s) image w
+abbrev pub lookupText : List ℕ → Which → List ℕ → Answer (List ℕ)
+lookupText image w path = lookupCounted image w path .answer
 
 abbrev pub extentShow : Option Extent → List ℕ
 extentShow none = []
@@ -45,6 +53,10 @@ extentOf image v i place s = onto (fileExtents image v i place s) λ o t. after 
 unfoldable pub extentOn : List ℕ → Volume → ℕ → ℕ → ℕ → Counted (List ℕ)
 extentOn image v id place s = onto (inodeOf image v id s) λ i t. extentOf image v i place t
 
+-- the line of an extent by its place, with the nodes gone through: document 02, request 06
+unfoldable pub extentCounted : List ℕ → Which → ℕ → ℕ → Counted (List ℕ)
+extentCounted image w id place = onVolume (λ v s. extentOn image v id place s) image w
+
 -- what `apfs_extent` answers
-unfoldable pub extentText : List ℕ → Which → ℕ → ℕ → Answer (List ℕ)
-extentText image w id place = onVolume (λ v s. extentOn image v id place s) image w
+abbrev pub extentText : List ℕ → Which → ℕ → ℕ → Answer (List ℕ)
+extentText image w id place = extentCounted image w id place .answer
