@@ -19,8 +19,8 @@ use Rattle.nx.specs.declared.container.Container.{Container}
 use Rattle.nx.specs.declared.container.Opened.{Opened}
 use Rattle.nx.specs.declared.container.Opening.{Opening}
 use Rattle.checkpoints.specs.declared.superblock.Superblock.{Superblock}
-use Rattle.calls.specs.Filled.{Filled, filled, filledBy, filledAt}
-use Rattle.container_line.specs.Container.{numberWords, containerHead, containerText, openText}
+use Rattle.calls.specs.Filled.{Filled, filled, filledAt, answered}
+use Rattle.container_line.specs.Container.{numberWords, containerHead, containerText, openCounted}
 
 word-append : (n : ℕ) (x : List ℕ) → 32 ∷ digits n x ≡ (32 ∷ digits n []) ++ x
 word-append n x = ap (λ (t : List ℕ). 32 ∷ t) (digits-append n [] x)
@@ -75,12 +75,12 @@ module _ (room : ℕ) (image : List ℕ) (sb : Superblock) where
 
 -- opening, by what it answered
 module _ (choice : Choice) (image b : List ℕ) (r : Opened) (p : openedTold r ≡ openAt choice image) where
-  pub open-got : (c : Container) (z : Filled) → r .container ≡ Opening.Got c → z ≡ filled (containerText image c []) b → z ≡ filledBy (openText choice image) b
-  unfolding openText
-  open-got c z q h = rw (← p, q) h
+  pub open-got : (c : Container) (z : Filled) → r .container ≡ Opening.Got c → z ≡ filled (containerText image c []) b → record { nodes = r .nodes; result = z } ≡ answered (openCounted choice image) b
+  unfolding openCounted
+  open-got c z q h = rw (← p, q, h)
 
-  pub open-refused : (e : Refusal) → r .container ≡ Opening.No e → filledAt (No e) b ≡ filledBy (openText choice image) b
-  unfolding openText
+  pub open-refused : (e : Refusal) → r .container ≡ Opening.No e → record { nodes = r .nodes; result = filledAt (No e) b } ≡ answered (openCounted choice image) b
+  unfolding openCounted
   open-refused e q = rw (← p, q)
 
 pub ruleset opens = (needs, open-got, open-refused)

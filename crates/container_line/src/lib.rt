@@ -1,4 +1,5 @@
 // The line of a container that is opened.
+use calls::Progress;
 use checkpoints::Choice;
 use checkpoints::Superblock;
 use nx::Container;
@@ -14,8 +15,8 @@ ghost use mathlib.Core.List.{[], _∷_};
 ghost use Rattle.text.specs.Output.{outputOf, puts};
 ghost use Rattle.text.specs.Words.{digits};
 ghost use Rattle.nx.specs.Slots.{volumesOf};
-ghost use Rattle.calls.specs.Filled.{filledAt, filled, filledBy};
-ghost use Rattle.container_line.specs.Container.{numberWords, containerHead, containerText, openText};
+ghost use Rattle.calls.specs.Filled.{filledAt, filled, calledBy, answered};
+ghost use Rattle.container_line.specs.Container.{numberWords, containerHead, containerText, openCounted};
 
 // A number after a space.
 fn put_word(out: &mut [u8], room: usize, p: Position, n: u64) -> Position
@@ -80,13 +81,19 @@ fn show(image: &[u8], c: Container, out: &mut [u8]) -> Position
     }
 }
 
-pub fn open_line(image: &[u8], choice: Choice, out: &mut [u8]) -> Position
-    ensures { λ r. ⌜ filledAt r (now (out .exit)) ≡ filledBy (openText choice (now (image .entry))) (now (out .entry)) ⌝ }
+pub fn open_line(image: &[u8], choice: Choice, out: &mut [u8]) -> Progress
+    ensures { λ r. ⌜ calledBy r (now (out .exit)) ≡ answered (openCounted choice (now (image .entry))) (now (out .entry)) ⌝ }
 {
     let opened = nx::open(image, choice);
     let container = opened.container;
     match container {
-        Opening::Got(c) => show(image, c, out),
-        Opening::No(e) => Position::No(e),
+        Opening::Got(c) => Progress {
+            at: show(image, c, out),
+            nodes: opened.nodes,
+        },
+        Opening::No(e) => Progress {
+            at: Position::No(e),
+            nodes: opened.nodes,
+        },
     }
 }
