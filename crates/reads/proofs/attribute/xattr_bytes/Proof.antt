@@ -1,11 +1,11 @@
 use borrow.Author.Needs.{needs}
-use Rattle.reads.specs.Reads.{xattrBytes}
+use Rattle.reads.specs.Reads.{xattrCounted}
 use Rattle.calls.proofs.Steps.{onward}
 use Rattle.reads.proofs.attribute.xattr_bytes.Statement.{statement}
 use Rattle.reads.proofs.attribute.xattr_bytes.Tie as tie
 
 pub xattr-bytes-spec : {M : Type 1} → statement M
-unfolding xattrBytes
+unfolding xattrCounted
 xattr-bytes-spec =
     tie.close
     (tie.spec

@@ -1,11 +1,11 @@
 use borrow.Author.Needs.{needs}
-use Rattle.reads.specs.Reads.{readText}
+use Rattle.reads.specs.Reads.{readCounted}
 use Rattle.calls.proofs.Steps.{onward}
 use Rattle.reads.proofs.file.read_text.Statement.{statement}
 use Rattle.reads.proofs.file.read_text.Tie as tie
 
 pub read-text-spec : {M : Type 1} → statement M
-unfolding readText
+unfolding readCounted
 read-text-spec =
     tie.close
     (tie.spec
