@@ -36,8 +36,9 @@ use Rattle.volume.specs.declared.Which.{Which}
 use Rattle.lists.specs.Lists.{searchOf}
 use Rattle.marks.specs.Mark.{markBytes, placeIn, partFits, inside, handedIn}
 use Rattle.marks.specs.Record.{recordLine}
-use Rattle.marks.specs.Texts.{kept, markOn, markText, recordText, markedText}
+use Rattle.marks.specs.Texts.{kept, markOn, markCounted, markText, recordText}
 use Rattle.marks.specs.Leads.{Leads}
+use Rattle.marks.proofs.Calls.{marked-open}
 use Rattle.marks.proofs.Kept.{mark-length, mark-back, FieldsFit}
 use Rattle.marks.proofs.Within.{Stands, scan-stands}
 
@@ -144,14 +145,14 @@ module _ (image : List ℕ) (v : Volume) (id kind : ℕ) (z : Sized image (v .re
 -- the bookmark of the record that a scan gives
 text-of : (image : List ℕ) (w : Which) (id kind place s : ℕ) (v : Volume) (o : Option Place) → volumeOfImage image w ≡ after s (got v) →
     nth place (scanOf image (searchOf v id kind) s) .answer ≡ got o → markText image w id kind place ≡ got (kept o)
-unfolding markText markOn
+unfolding markCounted markOn
 text-of image w id kind place s v o e n =
     let x = nth place (scanOf image (searchOf v id kind) s) in
     ap (λ (c : Counted Volume). (onto c λ y t. markOn image y id kind place t) .answer) e
     ∙ ap (λ (a : Answer (Option Place)). (from (x .nodes) a λ y. after (x .nodes) (got (kept y))) .answer) n
 
 pub leads : Leads
-unfolding markedText recordText
+unfolding recordText
 leads = record {
   held = λ image w id kind place s v p o n.
       let t = rooted image w v (ap (λ (x : Counted Volume). x .answer) o) in
@@ -162,7 +163,7 @@ leads = record {
         long = mark-length p;
         back = read-back image v id kind z p x;
         offsets = low image v id kind z p x;
-        handed-back = rw (t .opened, t .reader, handed image v id kind z p x) (ap got (shown-line image v id kind z p x));
+        handed-back = marked-open (w .checkpoint) image (markBytes p) (t .container) (t .opened) ∙ rw (t .reader, handed image v id kind z p x) (ap got (shown-line image v id kind z p x));
       };
   past = λ image w id kind place s v o n. text-of image w id kind place s v none o n;
 }

@@ -26,13 +26,20 @@ kept (some p) = markBytes p
 unfoldable pub markOn : List ℕ → Volume → ℕ → ℕ → ℕ → ℕ → Counted (List ℕ)
 markOn image v id kind place s = onto (nth place (scanOf image (searchOf v id kind) s)) λ o t. after t (got (kept o))
 
-unfoldable pub markText : List ℕ → Which → ℕ → ℕ → ℕ → Answer (List ℕ)
-markText image w id kind place = onVolume (λ v s. markOn image v id kind place s) image w
+-- that, with the nodes gone through: document 02, request 06
+unfoldable pub markCounted : List ℕ → Which → ℕ → ℕ → ℕ → Counted (List ℕ)
+markCounted image w id kind place = onVolume (λ v s. markOn image v id kind place s) image w
+
+abbrev pub markText : List ℕ → Which → ℕ → ℕ → ℕ → Answer (List ℕ)
+markText image w id kind place = markCounted image w id kind place .answer
 
 -- the record that a bookmark leads to
 unfoldable pub recordText : Reader → List ℕ → List ℕ → Answer (List ℕ)
 recordText r image mark = handedIn r image mark >>= λ p. got (recordLine (blockOf r image (p .block)) p [])
 
--- the container opens first, with its own refusals
-unfoldable pub markedText : Choice → List ℕ → List ℕ → Answer (List ℕ)
-markedText choice image mark = openAt choice image .answer >>= λ c. recordText (c .reader) image mark
+-- the container opens first, with its own refusals; with the nodes gone through: document 02, request 06
+unfoldable pub markedCounted : Choice → List ℕ → List ℕ → Counted (List ℕ)
+markedCounted choice image mark = onto (openAt choice image) λ c s. after s (recordText (c .reader) image mark)
+
+abbrev pub markedText : Choice → List ℕ → List ℕ → Answer (List ℕ)
+markedText choice image mark = markedCounted choice image mark .answer

@@ -4,6 +4,7 @@ use crate::mark::show_mark;
 use crate::record_line::show_record;
 use btree::Found;
 use btree::scan;
+use calls::Progress;
 use checkpoints::Choice;
 use lists::search;
 use node::Placed;
@@ -15,8 +16,8 @@ use volume::VolumeOpening;
 use volume::Which;
 use volume::open_at;
 ghost use mathlib.Core.Path.{_≡_};
-ghost use Rattle.calls.specs.Filled.{filledAt, filledBy};
-ghost use Rattle.marks.specs.Texts.{markOn, markText, recordText, markedText};
+ghost use Rattle.calls.specs.Filled.{filledAt, filledBy, calledBy, answered};
+ghost use Rattle.marks.specs.Texts.{markOn, markCounted, recordText, markedCounted};
 
 fn mark_on(
     image: &[u8],
@@ -26,15 +27,24 @@ fn mark_on(
     place: u64,
     nodes: u64,
     out: &mut [u8],
-) -> Position
-    ensures { λ r. ⌜ filledAt r (now (out .exit)) ≡ filledBy (markOn (now (image .entry)) v id kind place nodes .answer) (now (out .entry)) ⌝ }
+) -> Progress
+    ensures { λ r. ⌜ calledBy r (now (out .exit)) ≡ answered (markOn (now (image .entry)) v id kind place nodes) (now (out .entry)) ⌝ }
 {
     let s = scan(image, search(v, id, kind), place, nodes);
     let found = s.found;
     match found {
-        Found::At(p) => show_mark(p, out),
-        Found::End => Position::At(0),
-        Found::No(e) => Position::No(e),
+        Found::At(p) => Progress {
+            at: show_mark(p, out),
+            nodes: s.nodes,
+        },
+        Found::End => Progress {
+            at: Position::At(0),
+            nodes: s.nodes,
+        },
+        Found::No(e) => Progress {
+            at: Position::No(e),
+            nodes: s.nodes,
+        },
     }
 }
 
@@ -45,14 +55,17 @@ pub fn mark_text(
     kind: u8,
     place: u64,
     out: &mut [u8],
-) -> Position
-    ensures { λ r. ⌜ filledAt r (now (out .exit)) ≡ filledBy (markText (now (image .entry)) which id kind place) (now (out .entry)) ⌝ }
+) -> Progress
+    ensures { λ r. ⌜ calledBy r (now (out .exit)) ≡ answered (markCounted (now (image .entry)) which id kind place) (now (out .entry)) ⌝ }
 {
     let opened = open_at(image, which);
     let volume = opened.volume;
     match volume {
         VolumeOpening::Got(v) => mark_on(image, v, id, kind, place, opened.nodes, out),
-        VolumeOpening::No(e) => Position::No(e),
+        VolumeOpening::No(e) => Progress {
+            at: Position::No(e),
+            nodes: opened.nodes,
+        },
     }
 }
 
@@ -65,13 +78,19 @@ fn record_of(reader: Reader, image: &[u8], mark: &[u8], out: &mut [u8]) -> Posit
     }
 }
 
-pub fn marked_text(image: &[u8], choice: Choice, mark: &[u8], out: &mut [u8]) -> Position
-    ensures { λ r. ⌜ filledAt r (now (out .exit)) ≡ filledBy (markedText choice (now (image .entry)) (now (mark .entry))) (now (out .entry)) ⌝ }
+pub fn marked_text(image: &[u8], choice: Choice, mark: &[u8], out: &mut [u8]) -> Progress
+    ensures { λ r. ⌜ calledBy r (now (out .exit)) ≡ answered (markedCounted choice (now (image .entry)) (now (mark .entry))) (now (out .entry)) ⌝ }
 {
     let opened = nx::open(image, choice);
     let container = opened.container;
     match container {
-        Opening::Got(c) => record_of(c.reader, image, mark, out),
-        Opening::No(e) => Position::No(e),
+        Opening::Got(c) => Progress {
+            at: record_of(c.reader, image, mark, out),
+            nodes: opened.nodes,
+        },
+        Opening::No(e) => Progress {
+            at: Position::No(e),
+            nodes: opened.nodes,
+        },
     }
 }
