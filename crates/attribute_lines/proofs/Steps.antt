@@ -22,21 +22,21 @@ use Rattle.streams.proofs.Contents.{stream-settled}
 use Rattle.links.specs.Link.{contentsBy}
 use Rattle.lines.specs.Shown.{attributeShown}
 use Rattle.lines.specs.Lines.{attributeLine}
-use Rattle.calls.specs.Filled.{Filled, filled, filledBy, filledAt}
+use Rattle.calls.specs.Filled.{Filled, filled, filledAt, Answered, answered}
 use Rattle.calls.proofs.Steps as call
 use Rattle.attribute_lines.specs.Attributes.{streamedOf, attributeOf}
 
 module _ (image : List ℕ) (v : Volume) (a : Attribute) (b : List ℕ) (s : ℕ) where
   -- what the call leaves where c are the contents
-  abbrev left : Counted (List ℕ) → Filled
-  left c = filledBy ((onto c λ x t. after t (got (attributeLine (attributeShown (v .reader) image a x) []))) .answer) b
+  abbrev left : Counted (List ℕ) → Answered
+  left c = answered (onto c λ x t. after t (got (attributeLine (attributeShown (v .reader) image a x) []))) b
 
   pub embedded-got : (p : Span) (z : Filled) → a .contents ≡ Embedded p → z ≡ filled (attributeLine (attributeShown (v .reader) image a (attributeBytes (v .reader) image (a .place) p)) []) b
-      → z ≡ filledBy (attributeOf image v a s .answer) b
+      → record { nodes = s; result = z } ≡ answered (attributeOf image v a s) b
   unfolding attributeOf contentsBy
-  embedded-got p z q h = h ∙ ap (λ (x : AttributeData). left (contentsBy image v (a .place) x s)) (sym q)
+  embedded-got p z q h = call.with-nodes s z _ h ∙ ap (λ (x : AttributeData). left (contentsBy image v (a .place) x s)) (sym q)
 
-  pub streamed-got : (d : StreamData) (z : Filled) → a .contents ≡ Stream d → z ≡ filledBy (streamedOf image v a d s .answer) b → z ≡ filledBy (attributeOf image v a s .answer) b
+  pub streamed-got : (d : StreamData) (z : Answered) → a .contents ≡ Stream d → z ≡ answered (streamedOf image v a d s) b → z ≡ answered (attributeOf image v a s) b
   unfolding attributeOf contentsBy streamedOf
   streamed-got d z q h = h ∙ ap (λ (x : AttributeData). left (contentsBy image v (a .place) x s)) (sym q)
 
@@ -49,11 +49,11 @@ module _ (image : List ℕ) (v : Volume) (a : Attribute) (b : List ℕ) (s : ℕ
     contents = ap (λ (c : Counted (Unit {0})). onto c λ u t. after t (got (streamBytes image v (d .object) (d .size) s))) p ∙ sym (stream-settled image v (d .object) (d .size) s)
 
     pub settled-got : (z : Filled) → r .ruling ≡ Ruling.Fine → z ≡ filled (attributeLine (attributeShown (v .reader) image a (streamBytes image v (d .object) (d .size) s)) []) b
-        → z ≡ filledBy (streamedOf image v a d s .answer) b
+        → record { nodes = r .nodes; result = z } ≡ answered (streamedOf image v a d s) b
     unfolding streamedOf
-    settled-got z q h = h ∙ ap (λ (x : Ruling). left (by x)) (sym q) ∙ ap left contents
+    settled-got z q h = call.with-nodes (r .nodes) z _ h ∙ ap (λ (x : Ruling). left (by x)) (sym q) ∙ ap left contents
 
-    pub settled-refused : (w : Refusal) → r .ruling ≡ Ruling.No w → filledAt (No w) b ≡ filledBy (streamedOf image v a d s .answer) b
+    pub settled-refused : (w : Refusal) → r .ruling ≡ Ruling.No w → record { nodes = r .nodes; result = filledAt (No w) b } ≡ answered (streamedOf image v a d s) b
     unfolding streamedOf
     settled-refused w q = ap (λ (x : Ruling). left (by x)) (sym q) ∙ ap left contents
 

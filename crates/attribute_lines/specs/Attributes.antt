@@ -30,6 +30,10 @@ attributeShow image v (some a) s = attributeOf image v a s
 unfoldable pub attributeOn : List ℕ → Volume → ℕ → ℕ → ℕ → Counted (List ℕ)
 attributeOn image v id place s = onto (placed place (attributesOf image v id s)) λ o t. attributeShow image v o t
 
+-- the line of an attribute by its place, with the nodes gone through: document 02, request 06
+unfoldable pub attributeCounted : List ℕ → Which → ℕ → ℕ → Counted (List ℕ)
+attributeCounted image w id place = onVolume (λ v s. attributeOn image v id place s) image w
+
 -- what `apfs_xattr` answers
-unfoldable pub attributeText : List ℕ → Which → ℕ → ℕ → Answer (List ℕ)
-attributeText image w id place = onVolume (λ v s. attributeOn image v id place s) image w
+abbrev pub attributeText : List ℕ → Which → ℕ → ℕ → Answer (List ℕ)
+attributeText image w id place = attributeCounted image w id place .answer

@@ -1,11 +1,11 @@
 use borrow.Author.Needs.{needs}
-use Rattle.attribute_lines.specs.Attributes.{attributeText}
+use Rattle.attribute_lines.specs.Attributes.{attributeCounted}
 use Rattle.attribute_lines.proofs.Steps.{onward}
 use Rattle.attribute_lines.proofs.attribute_text.Statement.{statement}
 use Rattle.attribute_lines.proofs.attribute_text.Tie as tie
 
 pub attribute-text-spec : {M : Type 1} → statement M
-unfolding attributeText
+unfolding attributeCounted
 attribute-text-spec =
     tie.close
     (tie.spec
