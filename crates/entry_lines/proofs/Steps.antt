@@ -35,7 +35,7 @@ use Rattle.lists.specs.Inner.{readable}
 use Rattle.lists.proofs.Reading.{listed}
 use Rattle.lines.specs.Shown.{entryShown}
 use Rattle.lines.specs.Lines.{entryLine}
-use Rattle.calls.specs.Filled.{Filled, filled, filledBy, filledAt}
+use Rattle.calls.specs.Filled.{Filled, filled, filledBy, filledAt, Answered, answered}
 use Rattle.calls.proofs.Filling.{filled-nothing}
 use Rattle.calls.proofs.Steps as call
 use Rattle.entry_lines.specs.Entries.{linesOf, fitting, fittingSome, entriesOn}
@@ -78,36 +78,46 @@ module _ (image : List ℕ) (v : Volume) (id place s : ℕ) (b : List ℕ) (q₀
   begun : runAt image (searchOf v id 9) t₀ (t₀ .from) ≡ scanOf image (searchOf v id 9) s
   begun = rw k₀ at (g₀ .run)
 
-  abbrev by : Answer (List Entry) → Filled
-  by a = filledBy ((onto (after (entriesOf image v id s .nodes) a) λ es t. after t (fittingSome (length b) (linesOf (v .reader) image (drop place es)))) .answer) b
+  abbrev by : Answer (List Entry) → Answered
+  by a = answered (onto (after (entriesOf image v id s .nodes) a) λ es t. after t (fittingSome (length b) (linesOf (v .reader) image (drop place es)))) b
 
-  abbrev at-place : Answer (List Entry) → Answer (Option Entry)
-  at-place a = placed place (after (entriesOf image v id s .nodes) a) .answer
+  abbrev at-place : Answer (List Entry) → Counted (Option Entry)
+  at-place a = placed place (after (entriesOf image v id s .nodes) a)
 
-  told : entryPlaced (f .entry) ≡ at-place (entriesOf image v id s .answer)
+  found : entryFound f ≡ at-place (entriesOf image v id s .answer)
   unfolding entriesOf
-  told = ap (λ (c : Counted (Option Entry)). c .answer) (p ∙ ap (λ (r : Run). placed place (listOf (entryAt (hashedKeys v) (v .reader) image) r)) begun)
+  found = p ∙ ap (λ (r : Run). placed place (listOf (entryAt (hashedKeys v) (v .reader) image) r)) begun
 
-  pub entries-past : f .entry ≡ EntryAt.Nothing → filledAt (At 0) b ≡ filledBy (entriesOn image v id place (length b) s .answer) b
-  unfolding entriesOn fittingSome
-  entries-past q = of (entriesOf image v id s .answer) (ap entryPlaced (sym q) ∙ told)
+  told : (x : EntryAt) → f .entry ≡ x → entryPlaced x ≡ at-place (entriesOf image v id s .answer) .answer
+  told x q = ap entryPlaced (sym q) ∙ ap (λ (c : Counted (Option Entry)). c .answer) found
+
+  counted : f .nodes ≡ entriesOf image v id s .nodes
+  counted = ap (λ (c : Counted (Option Entry)). c .nodes) found ∙ of (entriesOf image v id s .answer)
     where
-      of : (a : Answer (List Entry)) → got none ≡ at-place a → filledAt (At 0) b ≡ by a
-      of (got es) h = let d : elementAt place es ≡ none = cc in rw (drop-past place es d) (filled-nothing b)
+      of : (a : Answer (List Entry)) → at-place a .nodes ≡ entriesOf image v id s .nodes
+      of (got es) = refl
+      of (no w) = refl
+
+  pub entries-past : f .entry ≡ EntryAt.Nothing → record { nodes = f .nodes; result = filledAt (At 0) b } ≡ answered (entriesOn image v id place (length b) s) b
+  unfolding entriesOn fittingSome
+  entries-past q = rw counted (of (entriesOf image v id s .answer) (told _ q))
+    where
+      of : (a : Answer (List Entry)) → got none ≡ at-place a .answer → record { nodes = entriesOf image v id s .nodes; result = filledAt (At 0) b } ≡ by a
+      of (got es) h = let d : elementAt place es ≡ none = cc in rw (drop-past place es d) (call.with-nodes _ _ _ (filled-nothing b))
       of (no w) h = absurd (let z : _≡_ {A = ℕ} 0 1 = cc in omega arith)
 
-  pub entries-refused : (w : Refusal) → f .entry ≡ EntryAt.No w → filledAt (No w) b ≡ filledBy (entriesOn image v id place (length b) s .answer) b
+  pub entries-refused : (w : Refusal) → f .entry ≡ EntryAt.No w → record { nodes = f .nodes; result = filledAt (No w) b } ≡ answered (entriesOn image v id place (length b) s) b
   unfolding entriesOn
-  entries-refused w q = of (entriesOf image v id s .answer) (ap entryPlaced (sym q) ∙ told)
+  entries-refused w q = rw counted (of (entriesOf image v id s .answer) (told _ q))
     where
-      of : (a : Answer (List Entry)) → no w ≡ at-place a → filledAt (No w) b ≡ by a
+      of : (a : Answer (List Entry)) → no w ≡ at-place a .answer → record { nodes = entriesOf image v id s .nodes; result = filledAt (No w) b } ≡ by a
       of (got es) h = absurd (let z : _≡_ {A = ℕ} 0 1 = cc in omega arith)
       of (no x) h = let d : w ≡ x = cc in rw d
 
   pub entries-here : (e : Entry) (z : Filled) → f .entry ≡ EntryAt.At e
-      → z ≡ entriesFrom (v .reader) image e (drop place (readable (entryAt (hashedKeys v) (v .reader) image) (runAt image (searchOf v id 9) t₀ (t₀ .from)))) b → z ≡ filledBy (entriesOn image v id place (length b) s .answer) b
+      → z ≡ entriesFrom (v .reader) image e (drop place (readable (entryAt (hashedKeys v) (v .reader) image) (runAt image (searchOf v id 9) t₀ (t₀ .from)))) b → record { nodes = f .nodes; result = z } ≡ answered (entriesOn image v id place (length b) s) b
   unfolding entriesOn entriesOf entriesFrom fittingSome
-  entries-here e z q h = of (entriesOf image v id s .answer) refl (ap entryPlaced (sym q) ∙ told)
+  entries-here e z q h = rw counted (of (entriesOf image v id s .answer) refl (told _ q))
     where
       line : List ℕ
       line = entryLine (entryShown (v .reader) image e) []
@@ -124,12 +134,12 @@ module _ (image : List ℕ) (v : Volume) (id place s : ℕ) (b : List ℕ) (q₀
           of (inl d) = rw (← at-most (length line) (length b) (got t) (no BufferTooShort) (got t) d refl) (sym (at-most _ _ _ _ _ d refl))
           of (inr d) = rw (← above (length line) (length b) (got t) (no BufferTooShort) (no BufferTooShort) d refl) (sym (above _ _ _ _ _ d refl))
 
-      of : (a : Answer (List Entry)) → entriesOf image v id s .answer ≡ a → got (some e) ≡ at-place a → z ≡ by a
+      of : (a : Answer (List Entry)) → entriesOf image v id s .answer ≡ a → got (some e) ≡ at-place a .answer → record { nodes = entriesOf image v id s .nodes; result = z } ≡ by a
       of (got es) k g =
           let d : elementAt place es ≡ some e = cc in
           let y = drop-at place es e d in
           let u : readable (entryAt (hashedKeys v) (v .reader) image) (runAt image (searchOf v id 9) t₀ (t₀ .from)) ≡ es = ap (readable (entryAt (hashedKeys v) (v .reader) image)) begun ∙ listed (entryAt (hashedKeys v) (v .reader) image) (scanOf image (searchOf v id 9) s) es k in
-          h ∙ rw (u, y .1) (both (y .0))
+          call.with-nodes _ _ _ (h ∙ rw (u, y .1) (both (y .0)))
       of (no w) k g = absurd (let z : _≡_ {A = ℕ} 0 1 = cc in omega arith)
 
 pub ruleset firsts = (needs, first-short, first-fits)

@@ -32,6 +32,10 @@ fittingSome room (t ∷ ts) = ifLe (length t) room (got (fitting room (t ∷ ts)
 unfoldable pub entriesOn : List ℕ → Volume → ℕ → ℕ → ℕ → ℕ → Counted (List ℕ)
 entriesOn image v id place room s = onto (entriesOf image v id s) λ es t. after t (fittingSome room (linesOf (v .reader) image (drop place es)))
 
+-- the lines that fit, with the nodes gone through: document 02, request 06
+unfoldable pub entriesCounted : List ℕ → Which → ℕ → ℕ → ℕ → Counted (List ℕ)
+entriesCounted image w id place room = onVolume (λ v s. entriesOn image v id place room s) image w
+
 -- what `apfs_entries` answers
-unfoldable pub entriesText : List ℕ → Which → ℕ → ℕ → ℕ → Answer (List ℕ)
-entriesText image w id place room = onVolume (λ v s. entriesOn image v id place room s) image w
+abbrev pub entriesText : List ℕ → Which → ℕ → ℕ → ℕ → Answer (List ℕ)
+entriesText image w id place room = entriesCounted image w id place room .answer

@@ -1,4 +1,5 @@
 // The lines of a directory's entries from a place on, as many as fit.
+use calls::Progress;
 use cursor::Step;
 use cursor::first;
 use cursor::next;
@@ -26,8 +27,8 @@ ghost use Rattle.volume.specs.Rule.{hashedKeys};
 ghost use Rattle.records.specs.Directory.{entryAt};
 ghost use Rattle.lists.specs.Lists.{searchOf};
 ghost use Rattle.lists.specs.Inner.{readable};
-ghost use Rattle.calls.specs.Filled.{filledAt, filledBy};
-ghost use Rattle.entry_lines.specs.Entries.{linesOf, fitting, entriesOn, entriesText};
+ghost use Rattle.calls.specs.Filled.{filledAt, calledBy, answered};
+ghost use Rattle.entry_lines.specs.Entries.{linesOf, fitting, entriesOn, entriesCounted};
 ghost use Rattle.entry_lines.specs.Inner.{lineAt, filledFrom, entriesFrom};
 
 // The line of an entry after n bytes, where it fits; nothing of an entry that is to be passed. No line is longer than 80 bytes and 6 for
@@ -120,26 +121,38 @@ fn entries_from(
 }
 
 // The whole list is read for its faults, then its lines are written in a second walk.
-fn entries_on(image: &[u8], v: Volume, id: u64, place: u64, nodes: u64, out: &mut [u8]) -> Position
-    ensures { λ r. ⌜ filledAt r (now (out .exit)) ≡ filledBy (entriesOn (now (image .entry)) v id place (length (now (out .entry))) nodes .answer) (now (out .entry)) ⌝ }
+fn entries_on(image: &[u8], v: Volume, id: u64, place: u64, nodes: u64, out: &mut [u8]) -> Progress
+    ensures { λ r. ⌜ calledBy r (now (out .exit)) ≡ answered (entriesOn (now (image .entry)) v id place (length (now (out .entry))) nodes) (now (out .entry)) ⌝ }
 {
     let start = first(image, search(v, id, 9), nodes);
     let found = entry_from(image, v, id, place, start);
     let entry = found.entry;
     match entry {
-        EntryAt::Nothing => Position::At(0),
-        EntryAt::At(e) => entries_from(image, v, id, place, e, start, out),
-        EntryAt::No(w) => Position::No(w),
+        EntryAt::Nothing => Progress {
+            at: Position::At(0),
+            nodes: found.nodes,
+        },
+        EntryAt::At(e) => Progress {
+            at: entries_from(image, v, id, place, e, start, out),
+            nodes: found.nodes,
+        },
+        EntryAt::No(w) => Progress {
+            at: Position::No(w),
+            nodes: found.nodes,
+        },
     }
 }
 
-pub fn entries_text(image: &[u8], which: Which, id: u64, place: u64, out: &mut [u8]) -> Position
-    ensures { λ r. ⌜ filledAt r (now (out .exit)) ≡ filledBy (entriesText (now (image .entry)) which id place (length (now (out .entry)))) (now (out .entry)) ⌝ }
+pub fn entries_text(image: &[u8], which: Which, id: u64, place: u64, out: &mut [u8]) -> Progress
+    ensures { λ r. ⌜ calledBy r (now (out .exit)) ≡ answered (entriesCounted (now (image .entry)) which id place (length (now (out .entry)))) (now (out .entry)) ⌝ }
 {
     let opened = open_at(image, which);
     let volume = opened.volume;
     match volume {
         VolumeOpening::Got(v) => entries_on(image, v, id, place, opened.nodes, out),
-        VolumeOpening::No(w) => Position::No(w),
+        VolumeOpening::No(w) => Progress {
+            at: Position::No(w),
+            nodes: opened.nodes,
+        },
     }
 }
