@@ -24,7 +24,7 @@ use Rattle.text.specs.declared.Position.{Position}
 use Rattle.text.specs.declared.Position.the-variants.{At, No}
 use Rattle.text.proofs.Whole.{fits}
 use Rattle.feed.specs.Fed.{writtenAs}
-use Rattle.lookup.specs.Counted.{after, onto}
+use Rattle.lookup.specs.Counted.{Counted, after, onto}
 use Rattle.node.specs.declared.place.Place.{Place}
 use Rattle.volume.specs.declared.Volume.{Volume}
 use Rattle.records.specs.Attribute.{attributeBytes}
@@ -81,44 +81,44 @@ stream-long b v object size s bs = of (extentsOf b v object s .nodes) (extentsOf
 module _ (b : List ℕ) (v : Volume) (object size s : ℕ) (r : Settled) (p : settledTold r ≡ settledOf b v object size s) where
   pub stream-counted : (q : Position) (o c : List ℕ) (n : Number) → r .ruling ≡ Ruling.Fine → size < 2 ^ 64
       → outputOf q c ≡ puts 18446744073709551615 (writtenAs true (upToZero (streamBytes b v object size s))) (at o 0) → told n ≡ positioned q
-      → told n ≡ countedIn (streamOf b v object size s .answer)
+      → after (r .nodes) (told n) ≡ countedIn (streamOf b v object size s)
   stream-counted q o c n k l h g =
-      let e : streamOf b v object size s .answer ≡ got (streamBytes b v object size s) = rw (stream-settled b v object size s, ← p, k) in
-      let m : length (streamBytes b v object size s) < 2 ^ 64 = omega (arith, stream-long b v object size s _ e) in
-      g ∙ marks-told (streamBytes b v object size s) o c q h m ∙ rw e
+      let e : streamOf b v object size s ≡ after (r .nodes) (got (streamBytes b v object size s)) = rw (stream-settled b v object size s, ← p, k) in
+      let m : length (streamBytes b v object size s) < 2 ^ 64 = omega (arith, stream-long b v object size s _ (ap (λ (x : Counted (List ℕ)). x .answer) e)) in
+      rw e (ap (λ (a : Answer ℕ). after (r .nodes) a) (g ∙ marks-told (streamBytes b v object size s) o c q h m))
 
-  pub stream-uncounted : (w : Refusal) → r .ruling ≡ Ruling.No w → no w ≡ countedIn (streamOf b v object size s .answer)
+  pub stream-uncounted : (w : Refusal) → r .ruling ≡ Ruling.No w → after (r .nodes) (no w) ≡ countedIn (streamOf b v object size s)
   stream-uncounted w k = rw (stream-settled b v object size s, ← p, k)
 
 module _ (b : List ℕ) (v : Volume) (p : Place) (d : AttributeData) (s : ℕ) where
   pub embedded-counted : (x : Span) (y t : List ℕ) (k : ℕ) → d ≡ Embedded x → y ≡ attributeBytes (v .reader) b p x → t ≡ upToZero y → k ≡ replaced t
-      → got k ≡ countedIn (contentsBy b v p d s .answer)
+      → after s (got k) ≡ countedIn (contentsBy b v p d s)
   unfolding contentsBy
   embedded-counted x y t k e h g l = rw (e, ← h, ← g, l)
 
-  pub contents-counted : (x : StreamData) (z : Answer ℕ) → d ≡ Stream x → z ≡ countedIn (streamOf b v (x .object) (x .size) s .answer)
-      → z ≡ countedIn (contentsBy b v p d s .answer)
+  pub contents-counted : (x : StreamData) (z : Counted ℕ) → d ≡ Stream x → z ≡ countedIn (streamOf b v (x .object) (x .size) s)
+      → z ≡ countedIn (contentsBy b v p d s)
   unfolding contentsBy
   contents-counted x z e h = rw e h
 
-target-is : (b : List ℕ) (v : Volume) (a : Attribute) (s : ℕ) → replacedOf (targetOf b v a s .answer) ≡ countedIn (contentsOf b v a s .answer)
+target-is : (b : List ℕ) (v : Volume) (a : Attribute) (s : ℕ) → replacedOf (targetOf b v a s) ≡ countedIn (contentsOf b v a s)
 unfolding targetOf
 target-is b v a s = of (contentsOf b v a s .nodes) (contentsOf b v a s .answer)
   where
-    of : (n : ℕ) (c : Answer (List ℕ)) → replacedOf ((onto (after n c) λ x t. after t (got (reading (upToZero x)))) .answer) ≡ countedIn c
+    of : (n : ℕ) (c : Answer (List ℕ)) → replacedOf (onto (after n c) λ x t. after t (got (reading (upToZero x)))) ≡ countedIn (after n c)
     of n (got x) = refl
     of n (no w) = refl
 
 module _ (b : List ℕ) (v : Volume) (i : Inode) (s : ℕ) (f : AttributeFound) (p : attributeFound f ≡ attributeNamed b v (i .id) symlinkName s) where
-  pub link-counted : (a : Attribute) (z : Answer ℕ) → f .attribute ≡ AttributeAt.At a → z ≡ countedIn (contentsOf b v a (f .nodes) .answer) → z ≡ replacedOf (linkReading b v i s .answer)
+  pub link-counted : (a : Attribute) (z : Counted ℕ) → f .attribute ≡ AttributeAt.At a → z ≡ countedIn (contentsOf b v a (f .nodes)) → z ≡ replacedOf (linkReading b v i s)
   unfolding linkReading
   link-counted a z q h = rw (← p, q) (h ∙ sym (target-is b v a (f .nodes)))
 
-  pub no-link : f .attribute ≡ AttributeAt.Nothing → no Corrupt ≡ replacedOf (linkReading b v i s .answer)
+  pub no-link : f .attribute ≡ AttributeAt.Nothing → after (f .nodes) (no Corrupt) ≡ replacedOf (linkReading b v i s)
   unfolding linkReading
   no-link q = rw (← p, q)
 
-  pub link-uncounted : (w : Refusal) → f .attribute ≡ AttributeAt.No w → no w ≡ replacedOf (linkReading b v i s .answer)
+  pub link-uncounted : (w : Refusal) → f .attribute ≡ AttributeAt.No w → after (f .nodes) (no w) ≡ replacedOf (linkReading b v i s)
   unfolding linkReading
   link-uncounted w q = rw (← p, q)
 

@@ -65,5 +65,5 @@ unfoldable pub readContents : Bool → List ℕ → Volume → Attribute → ℕ
 readContents raw b v a s = onto (contentsOf b v a s) λ x t. after t (got (readAs raw x))
 
 -- how many parts of a text with these contents are replaced
-abbrev pub countedIn : Answer (List ℕ) → Answer ℕ
-countedIn a = a >>= λ x. got (reading (upToZero x) .replaced)
+abbrev pub countedIn : Counted (List ℕ) → Counted ℕ
+countedIn c = after (c .nodes) (c .answer >>= λ x. got (reading (upToZero x) .replaced))

@@ -2,8 +2,9 @@
 use Prim.Native.Nat.{ℕ}
 use mathlib.Core.List.{List, []}
 use mathlib.Core.Option.{Option, none, some}
-use Rattle.error.specs.Answer.{Answer, got, no, _>>=_}
+use Rattle.error.specs.Answer.{got, no, _>>=_}
 use Rattle.error.specs.declared.Refusal.the-variants.{Corrupt}
+use Rattle.bytes.specs.Number.{told}
 use Rattle.bytes.specs.Part.{upToZero}
 use Rattle.utf8.specs.Text.{Reading, reading}
 use Rattle.text.specs.Words.{ascii}
@@ -16,6 +17,7 @@ use Rattle.records.specs.declared.attribute.AttributeData.{AttributeData}
 use Rattle.records.specs.declared.attribute.AttributeData.the-variants.{Embedded, Stream}
 use Rattle.inode_record.specs.declared.inode.Inode.{Inode}
 use Rattle.streams.specs.Streams.{streamOf}
+use Rattle.calls.specs.declared.Written.{Written}
 use Rattle.links.specs.Named.{attributeNamed}
 
 -- document 01, "Records": "Attribute flag 0x1 means a stream of object id and size, else the bytes follow"; fs.rs, `read_xattr`
@@ -48,6 +50,10 @@ linkReading b v inode s = onto (attributeNamed b v (inode .id) symlinkName s) λ
 unfoldable pub linkOf : List ℕ → Volume → Inode → ℕ → Counted (List ℕ)
 linkOf b v inode s = onto (linkReading b v inode s) λ r t. after t (got (r .text))
 
--- and its number
-abbrev pub replacedOf : Answer Reading → Answer ℕ
-replacedOf a = a >>= λ r. got (r .replaced)
+-- and its number, with the nodes gone through: document 02, request 06
+abbrev pub replacedOf : Counted Reading → Counted ℕ
+replacedOf c = after (c .nodes) (c .answer >>= λ r. got (r .replaced))
+
+-- a number as the code tells it
+abbrev pub numbered : Written → Counted ℕ
+numbered w = after (w .nodes) (told (w .count))

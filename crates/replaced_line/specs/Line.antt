@@ -63,6 +63,10 @@ replacedOn image v kind id place s =
     (ifEq kind 3 (attributeOn image v id place s)
     (ifEq kind 4 (linkOn image v id s) (after s (no NotFound))))))
 
+-- the line of a name, with the nodes gone through: document 02, request 06
+unfoldable pub replacedCounted : List ℕ → Which → ℕ → ℕ → ℕ → Counted (List ℕ)
+replacedCounted image w kind id place = onVolume (λ v s. replacedOn image v kind id place s) image w
+
 -- what `apfs_replaced` answers
-unfoldable pub replacedText : List ℕ → Which → ℕ → ℕ → ℕ → Answer (List ℕ)
-replacedText image w kind id place = onVolume (λ v s. replacedOn image v kind id place s) image w
+abbrev pub replacedText : List ℕ → Which → ℕ → ℕ → ℕ → Answer (List ℕ)
+replacedText image w kind id place = replacedCounted image w kind id place .answer

@@ -1,6 +1,7 @@
 // The line of each kind of name.
 use crate::line::show;
 use bytes::Number;
+use calls::Progress;
 use inode_record::Inode;
 use inode_record::InodeRead;
 use inode_record::NameField;
@@ -14,7 +15,7 @@ use records::entry_replaced;
 use text::Position;
 use volume::Volume;
 ghost use mathlib.Core.Path.{_≡_};
-ghost use Rattle.calls.specs.Filled.{filledAt, filled, filledBy};
+ghost use Rattle.calls.specs.Filled.{filledAt, filled, calledBy, answered};
 ghost use Rattle.replaced_line.specs.Line.{nameLine, inodeOn, entryOn, attributeOn, targetOn, linkOn};
 
 fn name_line(name: NameField, out: &mut [u8]) -> Position
@@ -26,8 +27,8 @@ fn name_line(name: NameField, out: &mut [u8]) -> Position
     }
 }
 
-pub fn inode_on(image: &[u8], v: Volume, id: u64, nodes: u64, out: &mut [u8]) -> Position
-    ensures { λ r. ⌜ filledAt r (now (out .exit)) ≡ filledBy (inodeOn (now (image .entry)) v id nodes .answer) (now (out .entry)) ⌝ }
+pub fn inode_on(image: &[u8], v: Volume, id: u64, nodes: u64, out: &mut [u8]) -> Progress
+    ensures { λ r. ⌜ calledBy r (now (out .exit)) ≡ answered (inodeOn (now (image .entry)) v id nodes) (now (out .entry)) ⌝ }
 {
     let found = inode(image, v, id, nodes);
     let read = found.inode;
@@ -35,9 +36,15 @@ pub fn inode_on(image: &[u8], v: Volume, id: u64, nodes: u64, out: &mut [u8]) ->
         InodeRead::Got(i) => {
             let fields = i.fields;
             let name = fields.name;
-            name_line(name, out)
+            Progress {
+                at: name_line(name, out),
+                nodes: found.nodes,
+            }
         }
-        InodeRead::No(w) => Position::No(w),
+        InodeRead::No(w) => Progress {
+            at: Position::No(w),
+            nodes: found.nodes,
+        },
     }
 }
 
@@ -48,16 +55,25 @@ pub fn entry_on(
     place: u64,
     nodes: u64,
     out: &mut [u8],
-) -> Position
-    ensures { λ r. ⌜ filledAt r (now (out .exit)) ≡ filledBy (entryOn (now (image .entry)) v id place nodes .answer) (now (out .entry)) ⌝ }
+) -> Progress
+    ensures { λ r. ⌜ calledBy r (now (out .exit)) ≡ answered (entryOn (now (image .entry)) v id place nodes) (now (out .entry)) ⌝ }
 {
     let found = entry_at(image, v, id, place, nodes);
     let reader = v.reader;
     let entry = found.entry;
     match entry {
-        EntryAt::Nothing => Position::At(0),
-        EntryAt::At(e) => show(entry_replaced(reader, image, e), out),
-        EntryAt::No(w) => Position::No(w),
+        EntryAt::Nothing => Progress {
+            at: Position::At(0),
+            nodes: found.nodes,
+        },
+        EntryAt::At(e) => Progress {
+            at: show(entry_replaced(reader, image, e), out),
+            nodes: found.nodes,
+        },
+        EntryAt::No(w) => Progress {
+            at: Position::No(w),
+            nodes: found.nodes,
+        },
     }
 }
 
@@ -68,37 +84,57 @@ pub fn attribute_on(
     place: u64,
     nodes: u64,
     out: &mut [u8],
-) -> Position
-    ensures { λ r. ⌜ filledAt r (now (out .exit)) ≡ filledBy (attributeOn (now (image .entry)) v id place nodes .answer) (now (out .entry)) ⌝ }
+) -> Progress
+    ensures { λ r. ⌜ calledBy r (now (out .exit)) ≡ answered (attributeOn (now (image .entry)) v id place nodes) (now (out .entry)) ⌝ }
 {
     let found = attribute_at(image, v, id, place, nodes);
     let attribute = found.attribute;
     match attribute {
-        AttributeAt::Nothing => Position::At(0),
+        AttributeAt::Nothing => Progress {
+            at: Position::At(0),
+            nodes: found.nodes,
+        },
         AttributeAt::At(a) => {
             let name = a.name;
-            show(name.replaced, out)
+            Progress {
+                at: show(name.replaced, out),
+                nodes: found.nodes,
+            }
         }
-        AttributeAt::No(w) => Position::No(w),
+        AttributeAt::No(w) => Progress {
+            at: Position::No(w),
+            nodes: found.nodes,
+        },
     }
 }
 
-fn target_on(image: &[u8], v: Volume, i: Inode, nodes: u64, out: &mut [u8]) -> Position
-    ensures { λ r. ⌜ filledAt r (now (out .exit)) ≡ filledBy (targetOn (now (image .entry)) v i nodes .answer) (now (out .entry)) ⌝ }
+fn target_on(image: &[u8], v: Volume, i: Inode, nodes: u64, out: &mut [u8]) -> Progress
+    ensures { λ r. ⌜ calledBy r (now (out .exit)) ≡ answered (targetOn (now (image .entry)) v i nodes) (now (out .entry)) ⌝ }
 {
-    match link_replaced(image, v, i, nodes) {
-        Number::Got(n) => show(n, out),
-        Number::No(w) => Position::No(w),
+    let done = link_replaced(image, v, i, nodes);
+    let count = done.count;
+    match count {
+        Number::Got(n) => Progress {
+            at: show(n, out),
+            nodes: done.nodes,
+        },
+        Number::No(w) => Progress {
+            at: Position::No(w),
+            nodes: done.nodes,
+        },
     }
 }
 
-pub fn link_on(image: &[u8], v: Volume, id: u64, nodes: u64, out: &mut [u8]) -> Position
-    ensures { λ r. ⌜ filledAt r (now (out .exit)) ≡ filledBy (linkOn (now (image .entry)) v id nodes .answer) (now (out .entry)) ⌝ }
+pub fn link_on(image: &[u8], v: Volume, id: u64, nodes: u64, out: &mut [u8]) -> Progress
+    ensures { λ r. ⌜ calledBy r (now (out .exit)) ≡ answered (linkOn (now (image .entry)) v id nodes) (now (out .entry)) ⌝ }
 {
     let found = inode(image, v, id, nodes);
     let read = found.inode;
     match read {
         InodeRead::Got(i) => target_on(image, v, i, found.nodes, out),
-        InodeRead::No(w) => Position::No(w),
+        InodeRead::No(w) => Progress {
+            at: Position::No(w),
+            nodes: found.nodes,
+        },
     }
 }

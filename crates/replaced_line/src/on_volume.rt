@@ -4,6 +4,7 @@ use crate::kinds::entry_on;
 use crate::kinds::inode_on;
 use crate::kinds::link_on;
 use crate::line::show;
+use calls::Progress;
 use error::Refusal;
 use label::label_replaced;
 use text::Position;
@@ -12,8 +13,8 @@ use volume::VolumeOpening;
 use volume::Which;
 use volume::open_at;
 ghost use mathlib.Core.Path.{_≡_};
-ghost use Rattle.calls.specs.Filled.{filledAt, filledBy};
-ghost use Rattle.replaced_line.specs.Line.{replacedOn, replacedText};
+ghost use Rattle.calls.specs.Filled.{calledBy, answered};
+ghost use Rattle.replaced_line.specs.Line.{replacedOn, replacedCounted};
 
 fn replaced_on(
     image: &[u8],
@@ -23,11 +24,14 @@ fn replaced_on(
     place: u64,
     nodes: u64,
     out: &mut [u8],
-) -> Position
-    ensures { λ r. ⌜ filledAt r (now (out .exit)) ≡ filledBy (replacedOn (now (image .entry)) v kind id place nodes .answer) (now (out .entry)) ⌝ }
+) -> Progress
+    ensures { λ r. ⌜ calledBy r (now (out .exit)) ≡ answered (replacedOn (now (image .entry)) v kind id place nodes) (now (out .entry)) ⌝ }
 {
     if kind == 0 {
-        return show(label_replaced(image, v), out);
+        return Progress {
+            at: show(label_replaced(image, v), out),
+            nodes: nodes,
+        };
     }
     if kind == 1 {
         return inode_on(image, v, id, nodes, out);
@@ -41,7 +45,10 @@ fn replaced_on(
     if kind == 4 {
         return link_on(image, v, id, nodes, out);
     }
-    Position::No(Refusal::NotFound)
+    Progress {
+        at: Position::No(Refusal::NotFound),
+        nodes: nodes,
+    }
 }
 
 pub fn replaced_text(
@@ -51,13 +58,16 @@ pub fn replaced_text(
     id: u64,
     place: u64,
     out: &mut [u8],
-) -> Position
-    ensures { λ r. ⌜ filledAt r (now (out .exit)) ≡ filledBy (replacedText (now (image .entry)) which kind id place) (now (out .entry)) ⌝ }
+) -> Progress
+    ensures { λ r. ⌜ calledBy r (now (out .exit)) ≡ answered (replacedCounted (now (image .entry)) which kind id place) (now (out .entry)) ⌝ }
 {
     let opened = open_at(image, which);
     let volume = opened.volume;
     match volume {
         VolumeOpening::Got(v) => replaced_on(image, v, kind, id, place, opened.nodes, out),
-        VolumeOpening::No(w) => Position::No(w),
+        VolumeOpening::No(w) => Progress {
+            at: Position::No(w),
+            nodes: opened.nodes,
+        },
     }
 }

@@ -1,11 +1,11 @@
 use borrow.Author.Needs.{needs}
-use Rattle.replaced_line.specs.Line.{replacedText}
+use Rattle.replaced_line.specs.Line.{replacedCounted}
 use Rattle.replaced_line.proofs.ByKind.{kinds}
 use Rattle.replaced_line.proofs.on_volume.replaced_text.Statement.{statement}
 use Rattle.replaced_line.proofs.on_volume.replaced_text.Tie as tie
 
 pub replaced-text-spec : {M : Type 1} → statement M
-unfolding replacedText
+unfolding replacedCounted
 replaced-text-spec =
     tie.close
     (tie.spec
