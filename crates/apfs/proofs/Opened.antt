@@ -5,12 +5,12 @@ use mathlib.Core.Logic.{_⊎_, inl, inr, ⊎-elim}
 use mathlib.Core.List.{List, [], _++_}
 use lib.IntN.{pos}
 use lib.ListN.{length, drop}
-use Rattle.error.specs.Answer.{Answer, got, no, _>>=_}
+use Rattle.error.specs.Answer.{Answer, got, no}
 use Rattle.error.specs.declared.Refusal.the-variants.{Unsupported}
 use Rattle.error.proofs.Laws.{le-cases, eq-cases}
 use Rattle.bytes.specs.Part.{partOf}
 use Rattle.gpt.proofs.Part.{whole, inside-small, part-self}
-use Rattle.lookup.specs.Counted.{Counted, after, from}
+use Rattle.lookup.specs.Counted.{Counted, after, from, onto}
 use Rattle.lookup.specs.declared.map.Map.{Map}
 use Rattle.omap.specs.Load.{mapAt}
 use Rattle.checkpoints.specs.declared.by_number.Choice.the-variants as choice
@@ -20,7 +20,7 @@ use Rattle.nx.specs.Numbers.{OpensBy, at-number, no-number}
 use Rattle.nx.proofs.LatestCheckpoint.{latest-checkpoint}
 use Rattle.nx.proofs.Numbers.{numbered-checkpoints}
 use Rattle.calls.specs.Filled.{Filled, filled}
-use Rattle.container_line.specs.Container.{containerHead, containerText, openText}
+use Rattle.container_line.specs.Container.{containerHead, containerText, openCounted, openText}
 use Rattle.apfs.specs.Call.{number, resultOf, bufferOf}
 use Rattle.apfs.specs.Opened as said
 use Rattle.apfs.specs.Opened.{superblock, objectMap, line, Refused, Taking, atLatest, atNumber, Gives, ApfsOpened}
@@ -40,7 +40,7 @@ module _ (image out : List ℕ) (t : Taking) where
 
   -- the text of an opening
   abbrev textOf : Counted Container → Answer (List ℕ)
-  textOf x = x .answer >>= λ c. got (containerText image c [])
+  textOf x = (onto x λ c s. after s (got (containerText image c []))) .answer
 
   module _ (i : ℕ) (l : t .Taken i) where
     abbrev container : Map → Container
@@ -68,14 +68,14 @@ module _ (image out : List ℕ) (t : Taking) where
 -- at the latest checkpoint, and at that of a number
 module _ (image out : List ℕ) where
   opened : Opens image (blockZero image) → GivenBy image out (atLatest image) (openText choice.Latest image)
-  unfolding openText
-  opened (at-latest i l e) = rw e (given image out (atLatest image) i l)
-  opened (no-candidate n e) = rw e (said.no-candidate n (refl, refl))
+  unfolding openCounted
+  opened (at-latest i l e) = rw (e, openText) (given image out (atLatest image) i l)
+  opened (no-candidate n e) = rw (e, openText) (said.no-candidate n (refl, refl))
 
   opened-by : (x : ℕ) → OpensBy image (blockZero image) x → GivenBy image out (atNumber image x) (openText (choice.Number x) image)
-  unfolding openText
-  opened-by x (at-number i n l e) = rw e (given image out (atNumber image x) i (n, l))
-  opened-by x (no-number n e) = rw e (said.no-candidate n (refl, refl))
+  unfolding openCounted
+  opened-by x (at-number i n l e) = rw (e, openText) (given image out (atNumber image x) i (n, l))
+  opened-by x (no-number n e) = rw (e, openText) (said.no-candidate n (refl, refl))
 
   module _ (h : length image ≤ 2 ^ 34) (r : BlockZeroRead image) where
     at-checkpoint : GivenBy image out (atLatest image) (openText choice.Latest image)

@@ -16,7 +16,9 @@ use Rattle.error.specs.declared.Refusal.the-variants.{Io, Corrupt, Unsupported,
 use Rattle.error.proofs.Laws.{le-cases}
 use Rattle.text.specs.declared.Position.{Position}
 use Rattle.text.specs.declared.Position.the-variants.{At, No}
-use Rattle.calls.specs.Filled.{Filled, filled, filledBy, filledAt}
+use Rattle.lookup.specs.Counted.{Counted}
+use Rattle.calls.specs.Filled.{Filled, filled, filledBy, filledAt, Answered, answered, calledBy}
+use Rattle.calls.specs.declared.Progress.{Progress}
 use Rattle.apfs.specs.Call.{minus, number, resultOf, bufferOf, resultAt, Within}
 
 -- a refusal's number as an i64
@@ -88,8 +90,22 @@ module _ (a : Answer (List ℕ)) (b x : List ℕ) (r : Position) (p : filledAt r
   pub call-buffer : x ≡ bufferOf a b
   call-buffer = ap (λ (m : Filled). m .buffer) p
 
+-- the same of a call that counts its nodes
+module _ (c : Counted (List ℕ)) (b x : List ℕ) (r : Progress) (p : calledBy r x ≡ answered c b) where
+  without-nodes : filledAt (r .at) x ≡ filledBy (c .answer) b
+  without-nodes = ap (λ (m : Answered). m .result) p
+
+  pub progress-within : length b * 1 < 2 ^ 63 → Within (r .at)
+  progress-within s = call-within (c .answer) b x (r .at) without-nodes s
+
+  pub progress-result : length b * 1 < 2 ^ 63 → (z : ℤ) → z ≡ resultAt (r .at) → toZ w64 (ofZ w64 z) ≡ resultOf (c .answer) b
+  progress-result s z e = call-result (c .answer) b x (r .at) without-nodes s z e
+
+  pub progress-buffer : x ≡ bufferOf (c .answer) b
+  progress-buffer = ap (λ (m : Filled). m .buffer) without-nodes
+
 pub ruleset results = (needs, count-fits, count-is, refusal-is)
 
-pub ruleset ends = (needs, refused-is, call-within, call-result, call-buffer)
+pub ruleset ends = (needs, refused-is, call-within, call-result, call-buffer, progress-within, progress-result, progress-buffer)
 
 pub ruleset negated = (needs, minus-fits, minus-is)

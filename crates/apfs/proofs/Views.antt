@@ -31,10 +31,10 @@ use Rattle.demand.specs.Demand.{withContents, inodeAnswer, entriesAnswer, attri
 use Rattle.demand.proofs.Counts.{onto-answer, inode-even, entries-even, attributes-even, contents-even, read-even}
 use Rattle.demand.proofs.Lookups.{lookup-shown, lookup-of-part}
 use Rattle.calls.specs.OnVolume.{onVolume}
-use Rattle.element_lines.specs.Elements.{entryShow, entryOn, entryText, lookupOn, lookupText}
-use Rattle.attribute_lines.specs.Attributes.{attributeOf, attributeShow, attributeOn, attributeText}
-use Rattle.entry_lines.specs.Entries.{linesOf, fittingSome, entriesOn, entriesText}
-use Rattle.reads.specs.Reads.{readOn, readText, linkOn, linkText, xattrShow, xattrOn, xattrBytes}
+use Rattle.element_lines.specs.Elements.{entryShow, entryOn, entryCounted, entryText, lookupOn, lookupCounted, lookupText}
+use Rattle.attribute_lines.specs.Attributes.{attributeOf, attributeShow, attributeOn, attributeCounted, attributeText}
+use Rattle.entry_lines.specs.Entries.{linesOf, fittingSome, entriesOn, entriesCounted, entriesText}
+use Rattle.reads.specs.Reads.{readOn, readCounted, readText, linkOn, linkCounted, linkText, xattrShow, xattrOn, xattrCounted, xattrBytes}
 
 -- the line of an entry at a place, nothing past the end
 abbrev pub entryLineAt : Option EntryShown → List ℕ
@@ -205,7 +205,7 @@ module _ (image : List ℕ) (v : Volume) where
 -- each call, by the view
 module _ (image : List ℕ) (index : Which) where
   on-view : (f : Volume → ℕ → Counted (List ℕ)) (g : View → Answer (List ℕ)) → ((v : Volume) (s : ℕ) → f v s .answer ≡ g (viewOf image v))
-      → onVolume f image index ≡ (viewOfPart image index >>= g)
+      → onVolume f image index .answer ≡ (viewOfPart image index >>= g)
   unfolding viewOfPart
   on-view f g h = of (volumeOfImage image index .nodes) (volumeOfImage image index .answer)
     where
@@ -214,19 +214,19 @@ module _ (image : List ℕ) (index : Which) where
       of n (no e) = refl
 
   pub read-view : (id off len : ℕ) → readText image index id off len ≡ (viewOfPart image index >>= λ v. v.read id off len)
-  unfolding readText
+  unfolding readCounted
   read-view id off len = on-view (λ v s. readOn image v id off len s) (λ v. v.read id off len) (λ v s. read-on image v id off len s)
 
   pub entry-view : (id k : ℕ) → entryText image index id k ≡ (viewOfPart image index >>= λ v. v.entries id >>= λ es. got (entryLineAt (elementAt k es)))
-  unfolding entryText
+  unfolding entryCounted
   entry-view id k = on-view (λ v s. entryOn image v id k s) (λ v. v.entries id >>= λ es. got (entryLineAt (elementAt k es))) (λ v s. entry-on image v id k s)
 
   pub attribute-view : (id k : ℕ) → attributeText image index id k ≡ (viewOfPart image index >>= λ v. v.attributes id >>= λ l. attributeLineAt (elementAt k l))
-  unfolding attributeText
+  unfolding attributeCounted
   attribute-view id k = on-view (λ v s. attributeOn image v id k s) (λ v. v.attributes id >>= λ l. attributeLineAt (elementAt k l)) (λ v s. attribute-on image v id k s)
 
   pub lookup-view : (path : List ℕ) → lookupText image index path ≡ (lookupOfPart image index path >>= λ f. got (nodeLine f []))
-  unfolding lookupText
+  unfolding lookupCounted
   lookup-view path =
       on-view (λ v s. lookupOn image v path s) (λ v. lookup v path >>= λ f. got (nodeLine f [])) (λ v s. lookup-on image v path s)
       ∙ rw (lookup-of-part image index path) (of (viewOfPart image index))
@@ -236,14 +236,14 @@ module _ (image : List ℕ) (index : Which) where
       of (no e) = refl
 
   pub entries-view : (id k room : ℕ) → entriesText image index id k room ≡ (viewOfPart image index >>= λ v. v.entries id >>= λ es. fittingSome room (map (λ e. entryLine e []) (drop k es)))
-  unfolding entriesText
+  unfolding entriesCounted
   entries-view id k room =
       on-view (λ v s. entriesOn image v id k room s) (λ v. v.entries id >>= λ es. fittingSome room (map (λ e. entryLine e []) (drop k es))) (λ v s. entries-on image v id k room s)
 
   pub bytes-view : (id k : ℕ) → xattrBytes image index id k ≡ (viewOfPart image index >>= λ v. v.attributes id >>= λ l. attributeBytesAt (elementAt k l))
-  unfolding xattrBytes
+  unfolding xattrCounted
   bytes-view id k = on-view (λ v s. xattrOn image v id k s) (λ v. v.attributes id >>= λ l. attributeBytesAt (elementAt k l)) (λ v s. bytes-on image v id k s)
 
   pub link-view : (id : ℕ) → linkText image index id ≡ (viewOfPart image index >>= λ v. linkShown v id)
-  unfolding linkText
+  unfolding linkCounted
   link-view id = on-view (λ v s. linkOn image v id s) (λ v. linkShown v id) (λ v s. link-on image v id s)

@@ -1,4 +1,5 @@
 // A call's result: how many bytes were written, or minus the refusal's number.
+use calls::Progress;
 use error::Refusal;
 use error::number_of;
 use text::Position;
@@ -20,4 +21,13 @@ pub fn result(p: Position) -> i64
         Position::At(n) => n as i64,
         Position::No(e) => refused(e),
     }
+}
+
+// Of a call that counts its nodes; their number is left out.
+pub fn result_of(p: Progress) -> i64
+    requires { ⌜ Within (p .at) ⌝ }
+    ensures { λ r. ⌜ r ≡ resultAt (p .at) ⌝ }
+{
+    let at = p.at;
+    result(at)
 }

@@ -1,6 +1,6 @@
 // Bookmarks of records: document 02, request 10.
 use crate::answer::refused;
-use crate::answer::result;
+use crate::answer::result_of;
 use bytes::Sliced;
 use bytes::part;
 use checkpoints::Choice;
@@ -19,7 +19,7 @@ fn mark_part(image: &[u8], which: Which, id: u64, kind: u8, place: u64, out: &mu
     ensures { λ r. ⌜ (r ≡ resultOf (onPart (λ p. markText p which id kind place) (now (image .entry))) (now (out .entry))) × (now (out .exit) ≡ bufferOf (onPart (λ p. markText p which id kind place) (now (image .entry))) (now (out .entry))) ⌝ }
 {
     match part_of_image(image) {
-        Sliced::Got(s) => result(mark_text(part(image, s), which, id, kind, place, out)),
+        Sliced::Got(s) => result_of(mark_text(part(image, s), which, id, kind, place, out)),
         Sliced::No(e) => refused(e),
     }
 }
@@ -28,7 +28,7 @@ fn marked_part(image: &[u8], choice: Choice, mark: &[u8], out: &mut [u8]) -> i64
     ensures { λ r. ⌜ (r ≡ resultOf (onPart (λ p. markedText choice p (now (mark .entry))) (now (image .entry))) (now (out .entry))) × (now (out .exit) ≡ bufferOf (onPart (λ p. markedText choice p (now (mark .entry))) (now (image .entry))) (now (out .entry))) ⌝ }
 {
     match part_of_image(image) {
-        Sliced::Got(s) => result(marked_text(part(image, s), choice, mark, out)),
+        Sliced::Got(s) => result_of(marked_text(part(image, s), choice, mark, out)),
         Sliced::No(e) => refused(e),
     }
 }

@@ -1,6 +1,7 @@
 // Each call on the part of the image that a container is in, of any checkpoint: document 02, requests 01 and 04.
 use crate::answer::refused;
 use crate::answer::result;
+use crate::answer::result_of;
 use attribute_lines::attribute_text;
 use bytes::Sliced;
 use bytes::part;
@@ -38,7 +39,7 @@ pub fn open_part(image: &[u8], choice: Choice, out: &mut [u8]) -> i64
     ensures { λ r. ⌜ (r ≡ resultOf (onPart (openText choice) (now (image .entry))) (now (out .entry))) × (now (out .exit) ≡ bufferOf (onPart (openText choice) (now (image .entry))) (now (out .entry))) ⌝ }
 {
     match part_of_image(image) {
-        Sliced::Got(s) => result(open_line(part(image, s), choice, out)),
+        Sliced::Got(s) => result_of(open_line(part(image, s), choice, out)),
         Sliced::No(e) => refused(e),
     }
 }
@@ -48,7 +49,7 @@ pub fn lookup_part(image: &[u8], which: Which, path: &[u8], out: &mut [u8]) -> i
     ensures { λ r. ⌜ (r ≡ resultOf (onPart (λ p. lookupText p which (now (path .entry))) (now (image .entry))) (now (out .entry))) × (now (out .exit) ≡ bufferOf (onPart (λ p. lookupText p which (now (path .entry))) (now (image .entry))) (now (out .entry))) ⌝ }
 {
     match part_of_image(image) {
-        Sliced::Got(s) => result(lookup_text(part(image, s), which, path, out)),
+        Sliced::Got(s) => result_of(lookup_text(part(image, s), which, path, out)),
         Sliced::No(e) => refused(e),
     }
 }
@@ -58,7 +59,7 @@ pub fn read_part(image: &[u8], which: Which, id: u64, offset: u64, out: &mut [u8
     ensures { λ r. ⌜ (r ≡ resultOf (onPart (λ p. readText p which id offset (length (now (out .entry)))) (now (image .entry))) (now (out .entry))) × (now (out .exit) ≡ bufferOf (onPart (λ p. readText p which id offset (length (now (out .entry)))) (now (image .entry))) (now (out .entry))) ⌝ }
 {
     match part_of_image(image) {
-        Sliced::Got(s) => result(read_text(part(image, s), which, id, offset, out)),
+        Sliced::Got(s) => result_of(read_text(part(image, s), which, id, offset, out)),
         Sliced::No(e) => refused(e),
     }
 }
@@ -68,7 +69,7 @@ pub fn entry_part(image: &[u8], which: Which, id: u64, place: u64, out: &mut [u8
     ensures { λ r. ⌜ (r ≡ resultOf (onPart (λ p. entryText p which id place) (now (image .entry))) (now (out .entry))) × (now (out .exit) ≡ bufferOf (onPart (λ p. entryText p which id place) (now (image .entry))) (now (out .entry))) ⌝ }
 {
     match part_of_image(image) {
-        Sliced::Got(s) => result(entry_text(part(image, s), which, id, place, out)),
+        Sliced::Got(s) => result_of(entry_text(part(image, s), which, id, place, out)),
         Sliced::No(e) => refused(e),
     }
 }
@@ -78,7 +79,7 @@ pub fn entries_part(image: &[u8], which: Which, id: u64, place: u64, out: &mut [
     ensures { λ r. ⌜ (r ≡ resultOf (onPart (λ p. entriesText p which id place (length (now (out .entry)))) (now (image .entry))) (now (out .entry))) × (now (out .exit) ≡ bufferOf (onPart (λ p. entriesText p which id place (length (now (out .entry)))) (now (image .entry))) (now (out .entry))) ⌝ }
 {
     match part_of_image(image) {
-        Sliced::Got(s) => result(entries_text(part(image, s), which, id, place, out)),
+        Sliced::Got(s) => result_of(entries_text(part(image, s), which, id, place, out)),
         Sliced::No(e) => refused(e),
     }
 }
@@ -88,7 +89,7 @@ pub fn xattr_part(image: &[u8], which: Which, id: u64, place: u64, out: &mut [u8
     ensures { λ r. ⌜ (r ≡ resultOf (onPart (λ p. attributeText p which id place) (now (image .entry))) (now (out .entry))) × (now (out .exit) ≡ bufferOf (onPart (λ p. attributeText p which id place) (now (image .entry))) (now (out .entry))) ⌝ }
 {
     match part_of_image(image) {
-        Sliced::Got(s) => result(attribute_text(part(image, s), which, id, place, out)),
+        Sliced::Got(s) => result_of(attribute_text(part(image, s), which, id, place, out)),
         Sliced::No(e) => refused(e),
     }
 }
@@ -98,7 +99,7 @@ pub fn xattr_bytes_part(image: &[u8], which: Which, id: u64, place: u64, out: &m
     ensures { λ r. ⌜ (r ≡ resultOf (onPart (λ p. xattrBytes p which id place) (now (image .entry))) (now (out .entry))) × (now (out .exit) ≡ bufferOf (onPart (λ p. xattrBytes p which id place) (now (image .entry))) (now (out .entry))) ⌝ }
 {
     match part_of_image(image) {
-        Sliced::Got(s) => result(xattr_bytes(part(image, s), which, id, place, out)),
+        Sliced::Got(s) => result_of(xattr_bytes(part(image, s), which, id, place, out)),
         Sliced::No(e) => refused(e),
     }
 }
@@ -108,7 +109,7 @@ pub fn link_part(image: &[u8], which: Which, id: u64, out: &mut [u8]) -> i64
     ensures { λ r. ⌜ (r ≡ resultOf (onPart (λ p. linkText p which id) (now (image .entry))) (now (out .entry))) × (now (out .exit) ≡ bufferOf (onPart (λ p. linkText p which id) (now (image .entry))) (now (out .entry))) ⌝ }
 {
     match part_of_image(image) {
-        Sliced::Got(s) => result(link_text(part(image, s), which, id, out)),
+        Sliced::Got(s) => result_of(link_text(part(image, s), which, id, out)),
         Sliced::No(e) => refused(e),
     }
 }
@@ -135,7 +136,7 @@ pub fn replaced_part(
     ensures { λ r. ⌜ (r ≡ resultOf (onPart (λ p. replacedText p which kind id place) (now (image .entry))) (now (out .entry))) × (now (out .exit) ≡ bufferOf (onPart (λ p. replacedText p which kind id place) (now (image .entry))) (now (out .entry))) ⌝ }
 {
     match part_of_image(image) {
-        Sliced::Got(s) => result(replaced_text(part(image, s), which, kind, id, place, out)),
+        Sliced::Got(s) => result_of(replaced_text(part(image, s), which, kind, id, place, out)),
         Sliced::No(e) => refused(e),
     }
 }
@@ -145,7 +146,7 @@ pub fn extent_part(image: &[u8], which: Which, id: u64, place: u64, out: &mut [u
     ensures { λ r. ⌜ (r ≡ resultOf (onPart (λ p. extentText p which id place) (now (image .entry))) (now (out .entry))) × (now (out .exit) ≡ bufferOf (onPart (λ p. extentText p which id place) (now (image .entry))) (now (out .entry))) ⌝ }
 {
     match part_of_image(image) {
-        Sliced::Got(s) => result(extent_text(part(image, s), which, id, place, out)),
+        Sliced::Got(s) => result_of(extent_text(part(image, s), which, id, place, out)),
         Sliced::No(e) => refused(e),
     }
 }
