@@ -1,9 +1,8 @@
 -- How the calls go on from their steps.
 use Prim.Native.Nat.{ℕ}
-use mathlib.Core.Path.{_≡_, ap}
+use mathlib.Core.Path.{_≡_}
 use mathlib.Core.List.{List, []}
 use borrow.Author.Needs.{needs}
-use Rattle.error.specs.Answer.{Answer, got}
 use Rattle.error.specs.declared.Refusal.{Refusal}
 use Rattle.text.specs.declared.Position.the-variants.{At, No}
 use Rattle.obj.specs.Block.{blockOf}
@@ -11,7 +10,6 @@ use Rattle.obj.specs.declared.reader.Reader.{Reader}
 use Rattle.node.specs.Place.{placedTold}
 use Rattle.node.specs.declared.place.Place.{Place}
 use Rattle.node.specs.declared.place.Placed.{Placed}
-use Rattle.lookup.specs.Counted.{after, from}
 use Rattle.btree.specs.Scan.{scannedTold, scanOf, nth}
 use Rattle.btree.specs.declared.entries.Found.{Found}
 use Rattle.btree.specs.declared.entries.Scanned.{Scanned}
@@ -27,7 +25,7 @@ use Rattle.calls.specs.Filled.{Filled, filled, filledBy, filledAt, answered}
 use Rattle.calls.proofs.Filling.{filled-nothing}
 use Rattle.marks.specs.Mark.{markBytes, handedIn}
 use Rattle.marks.specs.Record.{recordLine}
-use Rattle.marks.specs.Texts.{markOn, recordText, markedCounted, markedText}
+use Rattle.marks.specs.Texts.{markOn, recordText, markedCounted}
 
 module _ (image : List ℕ) (v : Volume) (id kind place s : ℕ) (b : List ℕ) (q : Search) (e : q ≡ searchOf v id kind) (r : Scanned) (p : scannedTold r ≡ nth place (scanOf image q s)) where
   pub mark-found : (x : Place) (z : Filled) → r .found ≡ Found.At x → z ≡ filled (markBytes x) b → record { nodes = r .nodes; result = z } ≡ answered (markOn image v id kind place s) b
@@ -59,13 +57,6 @@ module _ (choice : Choice) (image mark b : List ℕ) (r : Opened) (p : openedTol
   pub open-refused : (w : Refusal) → r .container ≡ Opening.No w → record { nodes = r .nodes; result = filledAt (No w) b } ≡ answered (markedCounted choice image mark) b
   unfolding markedCounted
   open-refused w q = rw (← p, q)
-
--- in a container that opened
-pub marked-open : (choice : Choice) (image mark : List ℕ) (c : Container) → openAt choice image .answer ≡ got c → markedText choice image mark ≡ recordText (c .reader) image mark
-unfolding markedCounted
-marked-open choice image mark c e =
-    let n = openAt choice image .nodes in
-    ap (λ (a : Answer Container). (from n a λ x. after n (recordText (x .reader) image mark)) .answer) e
 
 -- a line of a block, read as a list c
 pub line-in : (c d b : List ℕ) (p : Place) (z : Filled) → c ≡ d → z ≡ filled (recordLine c p []) b → z ≡ filled (recordLine d p []) b

@@ -36,9 +36,8 @@ use Rattle.volume.specs.declared.Which.{Which}
 use Rattle.lists.specs.Lists.{searchOf}
 use Rattle.marks.specs.Mark.{markBytes, placeIn, partFits, inside, handedIn}
 use Rattle.marks.specs.Record.{recordLine}
-use Rattle.marks.specs.Texts.{kept, markOn, markCounted, markText, recordText}
+use Rattle.marks.specs.Texts.{kept, markOn, markCounted, markText, recordText, markedCounted, markedText}
 use Rattle.marks.specs.Leads.{Leads}
-use Rattle.marks.proofs.Calls.{marked-open}
 use Rattle.marks.proofs.Kept.{mark-length, mark-back, FieldsFit}
 use Rattle.marks.proofs.Within.{Stands, scan-stands}
 
@@ -152,7 +151,7 @@ text-of image w id kind place s v o e n =
     ∙ ap (λ (a : Answer (Option Place)). (from (x .nodes) a λ y. after (x .nodes) (got (kept y))) .answer) n
 
 pub leads : Leads
-unfolding recordText
+unfolding markedCounted recordText
 leads = record {
   held = λ image w id kind place s v p o n.
       let t = rooted image w v (ap (λ (x : Counted Volume). x .answer) o) in
@@ -163,7 +162,7 @@ leads = record {
         long = mark-length p;
         back = read-back image v id kind z p x;
         offsets = low image v id kind z p x;
-        handed-back = marked-open (w .checkpoint) image (markBytes p) (t .container) (t .opened) ∙ rw (t .reader, handed image v id kind z p x) (ap got (shown-line image v id kind z p x));
+        handed-back = rw (t .opened, markedText, t .reader, handed image v id kind z p x) (ap got (shown-line image v id kind z p x));
       };
   past = λ image w id kind place s v o n. text-of image w id kind place s v none o n;
 }

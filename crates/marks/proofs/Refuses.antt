@@ -1,6 +1,6 @@
 -- What a bookmark that is handed in is refused for, and that nothing else is tested.
 use Prim.Native.Nat.{ℕ, _+_, _*_, _<_}
-use mathlib.Core.Path.{_≡_, refl, sym, _∙_}
+use mathlib.Core.Path.{_≡_, refl, sym}
 use mathlib.Core.List.{List}
 use mathlib.Core.Logic.{_⊎_, inl, inr, ⊎-elim}
 use lib.ListN.{length}
@@ -14,9 +14,8 @@ use Rattle.node.specs.declared.place.Place.{Place}
 use Rattle.node.specs.declared.table.Value.{Value}
 use Rattle.node.specs.declared.table.Value.the-variants.{At}
 use Rattle.marks.specs.Mark.{placeIn, partFits, inside, handedIn}
-use Rattle.marks.specs.Texts.{recordText}
+use Rattle.marks.specs.Texts.{recordText, markedCounted, markedText}
 use Rattle.marks.specs.Leads.{Passes, Refuses}
-use Rattle.marks.proofs.Calls.{marked-open}
 
 module _ (r : Reader) (image m : List ℕ) where
   abbrev size : ℕ
@@ -67,8 +66,8 @@ module _ (r : Reader) (image m : List ℕ) where
       (λ h. absurd (f (inl h)))
 
 pub refuses : Refuses
-unfolding recordText placeIn
+unfolding markedCounted recordText placeIn
 refuses = record {
-  one = λ choice image m c o p. marked-open choice image m c o ∙ rw (handed-refused (c .reader) image m p);
-  nothing-else = λ choice image m c o f. marked-open choice image m c o ∙ rw (handed-taken (c .reader) image m f);
+  one = λ choice image m c o p. rw (o, markedText, handed-refused (c .reader) image m p);
+  nothing-else = λ choice image m c o f. rw (o, markedText, handed-taken (c .reader) image m f);
 }
