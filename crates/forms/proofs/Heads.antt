@@ -3,14 +3,13 @@ use Prim.Native.Nat.{ℕ}
 use mathlib.Core.Path.{_≡_, refl, sym, ap, _∙_}
 use mathlib.Core.List.{List, []}
 use mathlib.Core.Option.{Option}
-use native.Mathlib.Omega.{arith}
 use borrow.Author.Needs.{needs}
-use Rattle.error.specs.Answer.{Answer, got, no, _>>=_}
+use Rattle.error.specs.Answer.{Answer, got, no}
 use Rattle.error.specs.declared.Refusal.{Refusal}
 use Rattle.lookup.specs.Counted.{Counted, after, onto}
-use Rattle.text.specs.Output.{Output, at, refused, outputOf, puts}
-use Rattle.text.specs.declared.Position.{Position}
+use Rattle.text.specs.Output.{outputOf, puts}
 use Rattle.text.specs.declared.Position.the-variants.{No}
+use Rattle.calls.specs.declared.Progress.{Progress}
 use Rattle.btree.specs.Scan.{Run, scanOf}
 use Rattle.cursor.specs.Left.{runAt, Begins}
 use Rattle.cursor.specs.declared.steps.Reached.{Reached}
@@ -32,140 +31,121 @@ use Rattle.lists.specs.declared.entries.EntryFound.{EntryFound}
 use Rattle.lists.specs.declared.entries.EntryAt.{EntryAt}
 use Rattle.lists.specs.declared.attributes.AttributeFound.{AttributeFound}
 use Rattle.lists.specs.declared.attributes.AttributeAt.{AttributeAt}
+use Rattle.extents.specs.Verdict.{fine}
+use Rattle.streams.specs.Streams.{settledTold}
+use Rattle.streams.specs.declared.settle.Settled.{Settled}
 use Rattle.lines.specs.Shown.{inodeShown}
 use Rattle.lines.specs.Lines.{nodeLine}
-use Rattle.demand.specs.Trace.{End, done, stop, Trace, says, _then_, reading}
-use Rattle.forms.specs.Inner.{ending, run, endOf, Tested, listsOf, attributeTraces, dataTrace, headTrace}
-use Rattle.forms.proofs.Running.{run-says, run-refused, stays, run-then, reading-got, reading-no}
+use Rattle.forms.specs.Course.{Course, writes, readings, _andThen_, attributeCourses, dataCourse}
+use Rattle.forms.specs.Inner.{Stand, standOf, go, reads, settled, headCourse}
+use Rattle.forms.proofs.Going.{go-then, go-writes, read-got, read-no, reads-stays, reads-over, reads-settled, stays-no}
+use Rattle.forms.proofs.After.{reads-shut}
 
 -- an element by place says whether its list could be read
-module _ {A : Type 0} (c : Counted (List A)) (k n : ℕ) where
-  placed-no : (w : Refusal) → after n (no w) ≡ placed k c → c .answer ≡ no w
-  placed-no w h = of (c .answer) (ap (λ (x : Counted (Option A)). x .answer) h)
-    where
-      of : (a : Answer (List A)) → no w ≡ (onto (after (c .nodes) a) λ xs t. after t (got (elementAt k xs))) .answer → a ≡ no w
-      of (got xs) e = absurd (let z : _≡_ {A = ℕ} 0 1 = cc in omega arith)
-      of (no e) g = let q : e ≡ w = cc in rw q
-
-  placed-done : (o : Option A) → after n (got o) ≡ placed k c → endOf (c .answer) ≡ done
-  placed-done o h = of (c .answer) (ap (λ (x : Counted (Option A)). x .answer) h)
-    where
-      of : (a : Answer (List A)) → got o ≡ (onto (after (c .nodes) a) λ xs t. after t (got (elementAt k xs))) .answer → endOf a ≡ done
-      of (got xs) e = refl
-      of (no e) g = absurd (let z : _≡_ {A = ℕ} 0 1 = cc in omega arith)
-
--- so that a list which is only read ends as its answer does
-module _ {A : Type 0} (c : Counted (List A)) (k n : ℕ) (p : Position) where
-  tested-no : (w : Refusal) (x : Position) → after n (no w) ≡ placed k c → ((l : List ℕ) → outputOf x l ≡ ending (stop w) (outputOf p l)) → Tested (c .answer) p x
-  unfolding Tested
-  tested-no w x h g l = g l ∙ ap (λ (a : Answer (List A)). ending (endOf a) (outputOf p l)) (sym (placed-no c k n w h))
-
-  tested-done : (o : Option A) → after n (got o) ≡ placed k c → Tested (c .answer) p p
-  unfolding Tested
-  tested-done o h l = ap (λ (x : End). ending x (outputOf p l)) (sym (placed-done c k n o h))
+settled-placed : {A : Type 0} (c : Counted (List A)) (k : ℕ) → settled (placed k c) ≡ settled c
+settled-placed {A} c k = of (c .answer)
+  where
+    of : (a : Answer (List A)) → settled (placed k (after (c .nodes) a)) ≡ settled (after (c .nodes) a)
+    of (got xs) = refl
+    of (no e) = refl
 
 -- a list that has ended where it begins
-pub tested-none : {A : Type 0} (g : Place → Answer A) (b : List ℕ) (q : Search) (t : Step) (i : ℕ) (p : Position) → t .reached ≡ Reached.End → Tested (listOf g (runAt b q t i) .answer) p p
-unfolding Tested listOf runAt
-tested-none g b q t i p e l = rw e
+pub settled-none : {A : Type 0} (g : Place → Answer A) (b : List ℕ) (q : Search) (t : Step) (i : ℕ) → t .reached ≡ Reached.End → after (t .nodes) fine ≡ settled (listOf g (runAt b q t i))
+unfolding listOf runAt
+settled-none g b q t i e = rw e
 
-module _ (k : ℕ) (p : Position) where
+module _ (k : ℕ) where
   module _ (c : Counted (List Entry)) (r : EntryFound) (h : entryFound r ≡ placed k c) where
-    entry-found : (x : EntryAt) → r .entry ≡ x → entryFound (record { entry = x; nodes = r .nodes }) ≡ placed k c
-    entry-found x q = ap (λ (y : EntryAt). entryFound (record { entry = y; nodes = r .nodes })) (sym q) ∙ h
+    entries-as : (x : EntryAt) → r .entry ≡ x → settled (entryFound (record { entry = x; nodes = r .nodes })) ≡ settled c
+    entries-as x q = ap (λ (y : EntryAt). settled (entryFound (record { entry = y; nodes = r .nodes }))) (sym q) ∙ ap settled h ∙ settled-placed c k
 
-    pub entries-no : (w : Refusal) (x : Position) → r .entry ≡ EntryAt.No w → ((l : List ℕ) → outputOf x l ≡ ending (stop w) (outputOf p l)) → Tested (c .answer) p x
-    entries-no w x q = tested-no c k (r .nodes) p w x (entry-found _ q)
+    pub entries-no : (w : Refusal) → r .entry ≡ EntryAt.No w → after (r .nodes) (no w) ≡ settled c
+    entries-no w q = entries-as (EntryAt.No w) q
 
-    pub entries-at : (y : Entry) → r .entry ≡ EntryAt.At y → Tested (c .answer) p p
-    entries-at y q = tested-done c k (r .nodes) p _ (entry-found _ q)
+    pub entries-at : (y : Entry) → r .entry ≡ EntryAt.At y → after (r .nodes) fine ≡ settled c
+    entries-at y q = entries-as (EntryAt.At y) q
 
-    pub entries-over : r .entry ≡ EntryAt.Nothing → Tested (c .answer) p p
-    entries-over q = tested-done c k (r .nodes) p _ (entry-found _ q)
+    pub entries-over : r .entry ≡ EntryAt.Nothing → after (r .nodes) fine ≡ settled c
+    entries-over q = entries-as EntryAt.Nothing q
 
   module _ (c : Counted (List Attribute)) (r : AttributeFound) (h : attributeFound r ≡ placed k c) where
-    attribute-found : (x : AttributeAt) → r .attribute ≡ x → attributeFound (record { attribute = x; nodes = r .nodes }) ≡ placed k c
-    attribute-found x q = ap (λ (y : AttributeAt). attributeFound (record { attribute = y; nodes = r .nodes })) (sym q) ∙ h
+    attributes-as : (x : AttributeAt) → r .attribute ≡ x → settled (attributeFound (record { attribute = x; nodes = r .nodes })) ≡ settled c
+    attributes-as x q = ap (λ (y : AttributeAt). settled (attributeFound (record { attribute = y; nodes = r .nodes }))) (sym q) ∙ ap settled h ∙ settled-placed c k
 
-    pub attributes-no : (w : Refusal) (x : Position) → r .attribute ≡ AttributeAt.No w → ((l : List ℕ) → outputOf x l ≡ ending (stop w) (outputOf p l)) → Tested (c .answer) p x
-    attributes-no w x q = tested-no c k (r .nodes) p w x (attribute-found _ q)
+    pub attributes-no : (w : Refusal) → r .attribute ≡ AttributeAt.No w → after (r .nodes) (no w) ≡ settled c
+    attributes-no w q = attributes-as (AttributeAt.No w) q
 
-    pub attributes-at : (y : Attribute) → r .attribute ≡ AttributeAt.At y → Tested (c .answer) p p
-    attributes-at y q = tested-done c k (r .nodes) p _ (attribute-found _ q)
+    pub attributes-at : (y : Attribute) → r .attribute ≡ AttributeAt.At y → after (r .nodes) fine ≡ settled c
+    attributes-at y q = attributes-as (AttributeAt.At y) q
 
-    pub attributes-over : r .attribute ≡ AttributeAt.Nothing → Tested (c .answer) p p
-    attributes-over q = tested-done c k (r .nodes) p _ (attribute-found _ q)
+    pub attributes-over : r .attribute ≡ AttributeAt.Nothing → after (r .nodes) fine ≡ settled c
+    attributes-over q = attributes-as AttributeAt.Nothing q
 
 -- the one list, then the other
-ended-once : (e : Refusal) (a : End) (o : Output) → ending a (ending (stop e) o) ≡ ending (stop e) o
-ended-once e done o = refl
-ended-once e (stop w) (at b n) = refl
-ended-once e (stop w) (refused x) = refl
+module _ {A B : Type 0} (c : Counted A) (d : Counted B) (s : Settled) (p q : Progress) (e : settledTold s ≡ settled c) (h : (b : List ℕ) → standOf q b ≡ reads (settledTold s) (standOf p b)) where
+  first-read : (b : List ℕ) → standOf q b ≡ reads c (standOf p b)
+  first-read b = h b ∙ ap (λ (x : Counted (Unit {0})). reads x (standOf p b)) e ∙ reads-settled c (standOf p b)
 
-both-tested : {A B : Type 0} (a : Answer A) (c : Answer B) (p q r : Position) → Tested a p q → Tested c q r → Tested (a >>= λ x. c) p r
-unfolding Tested
-both-tested {A} {B} a c p q r e f l = f l ∙ (ap (ending (endOf c)) (e l) ∙ of a)
-  where
-    of : (x : Answer A) → ending (endOf c) (ending (endOf x) (outputOf p l)) ≡ ending (endOf (x >>= λ y. c)) (outputOf p l)
-    of (got y) = refl
-    of (no w) = ended-once w (endOf c) (outputOf p l)
+  pub lists-stopped : (w : Refusal) → q .at ≡ No w → (b : List ℕ) → standOf q b ≡ reads d (reads c (standOf p b))
+  lists-stopped w x b = reads-shut d q w b x ∙ ap (reads d) (first-read b)
 
-pub lists-tested : (b : List ℕ) (v : Volume) (id : ℕ) (s t : Step) (p q r : Position) → Tested (listOf (attributeAt (v .reader) b) (runAt b (searchOf v id 4) s (s .from)) .answer) p q
-    → Tested (listOf (entryAt (hashedKeys v) (v .reader) b) (runAt b (searchOf v id 9) t (t .from)) .answer) q r → Tested (listsOf b v id s t) p r
-unfolding listsOf
-lists-tested b v id s t p q r =
-    both-tested (listOf (attributeAt (v .reader) b) (runAt b (searchOf v id 4) s (s .from)) .answer) (listOf (entryAt (hashedKeys v) (v .reader) b) (runAt b (searchOf v id 9) t (t .from)) .answer) p q r
+  pub lists-read : (t : Settled) (r : Progress) → settledTold t ≡ settled d → ((b : List ℕ) → standOf r b ≡ reads (settledTold t) (standOf q b)) → (b : List ℕ) → standOf r b ≡ reads d (reads c (standOf p b))
+  lists-read t r f g b = g b ∙ ap (λ (x : Counted (Unit {0})). reads x (standOf q b)) f ∙ reads-settled d (standOf q b) ∙ ap (reads d) (first-read b)
 
 -- the attributes are those of the run m, the entries those of the run n
-module _ (room : ℕ) (b : List ℕ) (v : Volume) (i : Inode) (m n : Run) (o p : Output) (h : p ≡ puts room (nodeLine (inodeShown (v .reader) b i) []) o) (whole : m ≡ scanOf b (searchOf v (i .id) 4) 0) where
-  abbrev attributes : Answer (List Attribute)
-  attributes = listOf (attributeAt (v .reader) b) m .answer
+module _ (room : ℕ) (b : List ℕ) (v : Volume) (i : Inode) (m n : Run) (o p : Stand) (h : p ≡ go room (writes (nodeLine (inodeShown (v .reader) b i) [])) o) (whole : m ≡ scanOf b (searchOf v (i .id) 4) 0) where
+  abbrev attributes : Counted (List Attribute)
+  attributes = listOf (attributeAt (v .reader) b) m
 
-  abbrev entries : Answer (List Entry)
-  entries = listOf (entryAt (hashedKeys v) (v .reader) b) n .answer
+  abbrev entries : Counted (List Entry)
+  entries = listOf (entryAt (hashedKeys v) (v .reader) b) n
 
   -- what follows the line
-  abbrev lists : Answer (List Attribute) → Answer (List Entry) → Trace
-  lists l es = reading l λ x. reading es λ y. attributeTraces b v x then dataTrace b v i
+  abbrev lists : Counted (List Attribute) → Course
+  lists l = readings l λ x. readings entries λ y. attributeCourses b v x andThen dataCourse b v i
 
-  after-line : run room (lists attributes entries) p ≡ run room (headTrace b v i n) o
-  unfolding headTrace attributesOf
-  after-line =
-      ap (run room _) (run-says room (nodeLine (inodeShown (v .reader) b i) []) o p h)
-      ∙ (sym (run-then room (says (nodeLine (inodeShown (v .reader) b i) [])) (lists attributes entries) o) ∙ rw whole)
-
-  head-stopped : (w : Refusal) → refused w ≡ p → refused w ≡ run room (headTrace b v i n) o
-  head-stopped w e = sym (run-refused room _ w) ∙ ap (run room _) e ∙ after-line
+  after-line : go room (lists attributes) p ≡ go room (headCourse b v i n) o
+  unfolding headCourse attributesOf
+  after-line = ap (go room (lists attributes)) h ∙ sym (go-then room (writes (nodeLine (inodeShown (v .reader) b i) [])) (lists attributes) o) ∙ rw whole
 
   -- the attributes, as the loop writes them, and the data
-  abbrev body : Output → Output
-  body x = run room (dataTrace b v i) (run room (attributeTraces b v (readable (attributeAt (v .reader) b) m)) x)
+  abbrev body : Stand → Stand
+  body x = go room (dataCourse b v i) (go room (attributeCourses b v (readable (attributeAt (v .reader) b) m)) x)
 
-  head-whole : (q r z : Output) → q ≡ ending (endOf (attributes >>= λ l. entries)) p → r ≡ run room (attributeTraces b v (readable (attributeAt (v .reader) b) m)) q
-      → z ≡ run room (dataTrace b v i) r → z ≡ run room (headTrace b v i n) o
-  head-whole q r z e f g = g ∙ ap (run room (dataTrace b v i)) f ∙ ap body e ∙ of attributes entries refl ∙ after-line
+  head-whole : body (reads entries (reads attributes p)) ≡ go room (headCourse b v i n) o
+  head-whole = of (attributes .answer) (entries .answer) refl refl ∙ after-line
     where
-      shut : (w : Refusal) → body (ending (stop w) p) ≡ ending (stop w) p
-      shut w = ap (run room (dataTrace b v i)) (stays room _ w p) ∙ stays room _ w p
-
-      of : (l : Answer (List Attribute)) (es : Answer (List Entry)) → attributes ≡ l → body (ending (endOf (l >>= λ x. es)) p) ≡ run room (lists l es) p
-      of (no w) es k = shut w ∙ reading-no room (no w) _ p w (ending (stop w) p) refl refl
-      of (got l) (no w) k = shut w ∙ reading-no room (no w) _ p w (ending (stop w) p) refl refl ∙ reading-got room (got l) (λ x. reading (no w) λ y. attributeTraces b v x then dataTrace b v i) p l _ refl refl
-      of (got l) (got es) k =
+      of : (l : Answer (List Attribute)) (es : Answer (List Entry)) → attributes .answer ≡ l → entries .answer ≡ es → body (reads entries (reads attributes p)) ≡ go room (lists attributes) p
+      of (no w) es k j =
+          let shut : (c : Course) → go room c (reads attributes p) ≡ reads attributes p = λ c. reads-stays attributes room c p w k in
+          let skip : reads entries (reads attributes p) ≡ reads attributes p = reads-over entries attributes w k p in
+          ap body skip ∙ ap (go room (dataCourse b v i)) (shut _) ∙ shut _ ∙ sym (read-no attributes _ room p w k)
+      of (got l) (no w) k j =
+          let shut : (c : Course) → go room c (reads entries (reads attributes p)) ≡ reads entries (reads attributes p) = λ c. reads-stays entries room c (reads attributes p) w j in
+          ap (go room (dataCourse b v i)) (shut _) ∙ shut _ ∙ sym (read-no entries _ room (reads attributes p) w j) ∙ sym (read-got attributes _ room p l k)
+      of (got l) (got es) k j =
           let u : readable (attributeAt (v .reader) b) m ≡ l = listed (attributeAt (v .reader) b) m l k in
-          ap (λ (x : List Attribute). run room (dataTrace b v i) (run room (attributeTraces b v x) p)) u ∙ sym (run-then room (attributeTraces b v l) (dataTrace b v i) p)
-          ∙ reading-got room (got es) (λ y. attributeTraces b v l then dataTrace b v i) p es _ refl refl ∙ reading-got room (got l) (λ x. reading (got es) λ y. attributeTraces b v x then dataTrace b v i) p l _ refl refl
+          ap (λ (x : List Attribute). go room (dataCourse b v i) (go room (attributeCourses b v x) (reads entries (reads attributes p)))) u
+          ∙ sym (go-then room (attributeCourses b v l) (dataCourse b v i) _) ∙ sym (read-got entries _ room (reads attributes p) es j) ∙ sym (read-got attributes _ room p l k)
 
--- the same, by the positions that the code has
-module _ (room : ℕ) (b : List ℕ) (v : Volume) (i : Inode) (u : Step) (o : Output) (a : Position) (l : List ℕ) (h : outputOf a l ≡ puts room (nodeLine (inodeShown (v .reader) b i) []) o) where
-  pub head-refused : (w : Refusal) → a ≡ No w → refused w ≡ run room (headTrace b v i (runAt b (searchOf v (i .id) 9) u (u .from))) o
-  head-refused w e = head-stopped room b v i (scanOf b (searchOf v (i .id) 4) 0) (runAt b (searchOf v (i .id) 9) u (u .from)) o (outputOf a l) h refl w (ap (λ (x : Position). outputOf x l) (sym e))
+-- the same, by what the code has
+module _ (room : ℕ) (b : List ℕ) (v : Volume) (i : Inode) (u : Step) (o : Stand) (a : Progress) (l : List ℕ) (h : outputOf (a .at) l ≡ puts room (nodeLine (inodeShown (v .reader) b i) []) (o .output)) (f : a .nodes ≡ o .nodes) where
+  abbrev run : Run
+  run = runAt b (searchOf v (i .id) 9) u (u .from)
 
-  pub head-all : (t : Step) (c : Position) (r z : Output) → Begins b (searchOf v (i .id) 4) t (scanOf b (searchOf v (i .id) 4) 0) → Tested (listsOf b v (i .id) t u) a c
-      → r ≡ run room (attributeTraces b v (readable (attributeAt (v .reader) b) (runAt b (searchOf v (i .id) 4) t (t .from)))) (outputOf c l) → z ≡ run room (dataTrace b v i) r
-      → z ≡ run room (headTrace b v i (runAt b (searchOf v (i .id) 9) u (u .from))) o
-  unfolding Tested listsOf
+  line-done : standOf a l ≡ go room (writes (nodeLine (inodeShown (v .reader) b i) [])) o
+  line-done = ap (λ (n : ℕ). record { output = outputOf (a .at) l; nodes = n }) f ∙ go-writes room _ o (outputOf (a .at) l) h
+
+  pub head-refused : (w : Refusal) → a .at ≡ No w → standOf a l ≡ go room (headCourse b v i run) o
+  unfolding headCourse
+  head-refused w e = stays-no a room _ w l e ∙ ap (go room _) line-done ∙ sym (go-then room (writes (nodeLine (inodeShown (v .reader) b i) [])) _ o)
+
+  pub head-all : (t : Step) (c : Progress) (r z : Stand) → Begins b (searchOf v (i .id) 4) t (scanOf b (searchOf v (i .id) 4) 0)
+      → ((x : List ℕ) → standOf c x ≡ reads (listOf (entryAt (hashedKeys v) (v .reader) b) run) (reads (listOf (attributeAt (v .reader) b) (runAt b (searchOf v (i .id) 4) t (t .from))) (standOf a x)))
+      → r ≡ go room (attributeCourses b v (readable (attributeAt (v .reader) b) (runAt b (searchOf v (i .id) 4) t (t .from)))) (standOf c l) → z ≡ go room (dataCourse b v i) r
+      → z ≡ go room (headCourse b v i run) o
   head-all t c r z k x f g =
-      head-whole room b v i (runAt b (searchOf v (i .id) 4) t (t .from)) (runAt b (searchOf v (i .id) 9) u (u .from)) o (outputOf a l) h (k .run) (outputOf c l) r z (x l) f g
+      g ∙ ap (go room (dataCourse b v i)) (f ∙ ap (go room (attributeCourses b v (readable (attributeAt (v .reader) b) (runAt b (searchOf v (i .id) 4) t (t .from))))) (x l))
+      ∙ head-whole room b v i (runAt b (searchOf v (i .id) 4) t (t .from)) run o (standOf a l) line-done (k .run)
 
-pub ruleset heads = (needs, tested-none, entries-no, entries-at, entries-over, attributes-no, attributes-at, attributes-over, lists-tested, head-refused)
+pub ruleset heads = (needs, settled-none, entries-no, entries-at, entries-over, attributes-no, attributes-at, attributes-over, lists-stopped, lists-read, head-refused, head-all)

@@ -1,5 +1,5 @@
 -- The lines of a node's form, by what is read for them.
-use Prim.Native.Nat.{ℕ}
+use Prim.Native.Nat.{ℕ, _^_, _<_}
 use mathlib.Core.Path.{_≡_, refl, sym, ap, _∙_}
 use mathlib.Core.List.{List, [], _++_}
 use borrow.Author.Needs.{needs}
@@ -47,9 +47,13 @@ use Rattle.lines.specs.Shown as shown
 use Rattle.lines.specs.Lines.{attributeLine, contentsLine}
 use Rattle.lines.specs.Inner.{attributeHead}
 use Rattle.lines.proofs.After.{attribute-texts}
-use Rattle.demand.specs.Trace.{Trace, stop, says, reading}
-use Rattle.forms.specs.Inner.{ending, run, attributeTrace, streamTrace, plainTrace, dataTrace}
-use Rattle.forms.proofs.Running.{run-says, reading-got, reading-no}
+use Rattle.calls.specs.declared.Progress.{Progress}
+use Rattle.text.specs.Output.{outputOf}
+use Rattle.text.specs.declared.Position.the-variants.{No}
+use Rattle.forms.specs.Course.{Course, writes, readings, attributeCourse, dataCourse}
+use Rattle.forms.specs.Inner.{Stand, standOf, go, reads, streamCourse, plainCourse}
+use Rattle.forms.proofs.Going.{go-writes, read-got, reads-none, stays-no}
+use Rattle.forms.proofs.After.{settled-go}
 
 -- a line with contents that are written piece by piece
 pub streamed-line : (room : ℕ) (o h x z : Output) (r : Reader) (b : List ℕ) (a : Attribute) (c : List ℕ) → h ≡ puts room (attributeHead (a .flags) (lossy (attributeName r b a)) (formShown (a .contents)) []) o
@@ -83,63 +87,76 @@ own-extents b v n m k t e g = rw e g
 pub other-extents : (b : List ℕ) (v : Volume) (n k : ℕ) (q : Search) (t : Step) → q ≡ searchOf v n k → Begins b q t (scanOf b q 0) → Begins b (searchOf v n k) t (scanOf b (searchOf v n k) 0)
 other-extents b v n k q t e g = rw e at g
 
--- what is answered once it is settled
-module _ (n : ℕ) (x : Ruling) (bs : List ℕ) (c : Counted (List ℕ)) (p : c ≡ (onto (after n (ruled x)) λ u t. after t (got bs))) where
-  settled-got : x ≡ Ruling.Fine → c .answer ≡ got bs
-  settled-got q = ap (λ (y : Counted (List ℕ)). y .answer) (p ∙ ap (λ (r : Ruling). onto (after n (ruled r)) λ u t. after t (got bs)) q)
+-- after a reading that was settled, the line of what is read
+module _ (room : ℕ) (s : Settled) (p q : Progress) (l : List ℕ) (k : (m : List ℕ) → standOf q m ≡ reads (settledTold s) (standOf p m)) where
+  module _ (c : Counted (List ℕ)) (t : List ℕ → List ℕ) (y : List ℕ) (e : c ≡ (onto (settledTold s) λ u n. after n (got y))) where
+    after-reading : go room (writes (t y)) (standOf q l) ≡ go room (readings c λ d. writes (t d)) (standOf p l)
+    after-reading = ap (go room (writes (t y))) (k l) ∙ sym (settled-go room c (λ d. writes (t d)) y s (standOf p l) e)
 
-  settled-no : (w : Refusal) → x ≡ Ruling.No w → c .answer ≡ no w
-  settled-no w q = ap (λ (y : Counted (List ℕ)). y .answer) (p ∙ ap (λ (r : Ruling). onto (after n (ruled r)) λ u t. after t (got bs)) q)
+    line-stopped : (w : Refusal) → q .at ≡ No w → standOf q l ≡ go room (readings c λ d. writes (t d)) (standOf p l)
+    line-stopped w x = stays-no q room (writes (t y)) w l x ∙ after-reading
 
-module _ (room : ℕ) (b : List ℕ) (v : Volume) (a : Attribute) (o z : Output) where
-  module _ (d : StreamData) (r : Settled) (p : settledTold r ≡ settledOf b v (d .object) (d .size) 0) where
-    by-ruling : streamOf b v (d .object) (d .size) 0 ≡ (onto (after (r .nodes) (ruled (r .ruling))) λ u t. after t (got (streamBytes b v (d .object) (d .size) 0)))
-    by-ruling = stream-settled b v (d .object) (d .size) 0 ∙ ap (λ (c : Counted (Unit {0})). onto c λ u t. after t (got (streamBytes b v (d .object) (d .size) 0))) (sym p)
+    line-written : (z : Output) → z ≡ puts room (t y) (outputOf (q .at) l) → _≡_ {A = Stand} (record { output = z; nodes = q .nodes }) (go room (readings c λ d. writes (t d)) (standOf p l))
+    line-written z h = go-writes room (t y) (standOf q l) z h ∙ after-reading
 
-    pub stream-fine : r .ruling ≡ Ruling.Fine → z ≡ puts room (attributeLine (attributeShown (v .reader) b a (streamBytes b v (d .object) (d .size) 0)) []) o → z ≡ run room (streamTrace b v a d) o
-    unfolding streamTrace
-    stream-fine q h = reading-got room _ _ o _ z (settled-got (r .nodes) (r .ruling) _ _ by-ruling q) (run-says room _ o z h)
+  module _ (b : List ℕ) (v : Volume) (a : Attribute) (d : StreamData) (h : settledTold s ≡ settledOf b v (d .object) (d .size) 0) where
+    by-ruling : streamOf b v (d .object) (d .size) 0 ≡ (onto (settledTold s) λ u t. after t (got (streamBytes b v (d .object) (d .size) 0)))
+    by-ruling = stream-settled b v (d .object) (d .size) 0 ∙ ap (λ (c : Counted (Unit {0})). onto c λ u t. after t (got (streamBytes b v (d .object) (d .size) 0))) (sym h)
 
-    pub stream-refused : (w : Refusal) → r .ruling ≡ Ruling.No w → z ≡ ending (stop w) o → z ≡ run room (streamTrace b v a d) o
-    unfolding streamTrace
-    stream-refused w q h = reading-no room _ _ o w z (settled-no (r .nodes) (r .ruling) _ _ by-ruling w q) h
+    pub stream-stopped : (w : Refusal) → q .at ≡ No w → standOf q l ≡ go room (streamCourse b v a d) (standOf p l)
+    unfolding streamCourse
+    stream-stopped = line-stopped _ (λ c. attributeLine (attributeShown (v .reader) b a c) []) _ by-ruling
 
-  -- what the line is where these are the contents
-  abbrev written : Answer (List ℕ) → Output
-  written x = run room (reading x λ d. says (attributeLine (attributeShown (v .reader) b a d) [])) o
+    pub stream-written : (z : Output) → z ≡ puts room (attributeLine (attributeShown (v .reader) b a (streamBytes b v (d .object) (d .size) 0)) []) (outputOf (q .at) l)
+        → _≡_ {A = Stand} (record { output = z; nodes = q .nodes }) (go room (streamCourse b v a d) (standOf p l))
+    unfolding streamCourse
+    stream-written = line-written _ (λ c. attributeLine (attributeShown (v .reader) b a c) []) _ by-ruling
 
-  pub embedded-trace : (s : Span) → a .contents ≡ Embedded s → z ≡ puts room (attributeLine (attributeShown (v .reader) b a (attributeBytes (v .reader) b (a .place) s)) []) o → z ≡ run room (attributeTrace b v a) o
-  unfolding attributeTrace contentsBy
-  embedded-trace s q h =
-      reading-got room (got (attributeBytes (v .reader) b (a .place) s)) (λ d. says (attributeLine (attributeShown (v .reader) b a d) [])) o _ z refl (run-says room _ o z h)
-      ∙ ap (λ (x : AttributeData). written (contentsBy b v (a .place) x 0 .answer)) (sym q)
-
-  pub streamed-trace : (d : StreamData) → a .contents ≡ Stream d → z ≡ run room (streamTrace b v a d) o → z ≡ run room (attributeTrace b v a) o
-  unfolding attributeTrace contentsBy streamTrace
-  streamed-trace d q h = h ∙ ap (λ (x : AttributeData). written (contentsBy b v (a .place) x 0 .answer)) (sym q)
-
-module _ (room : ℕ) (b : List ℕ) (v : Volume) (i : Inode) (o z : Output) where
   -- the file's extents are those from a step on
-  module _ (t : Step) (g : Begins b (searchOf v (i .ids .«private_id») 8) t (scanOf b (searchOf v (i .ids .«private_id») 8) 0)) (r : Settled)
-      (p : settledTold r ≡ wholeFrom b v i (runAt b (searchOf v (i .ids .«private_id») 8) t (t .from))) where
-    whole-ruling : readPlain b v i 0 ≡ (onto (after (r .nodes) (ruled (r .ruling))) λ u t. after t (got (streamBytes b v (i .ids .«private_id») (sizeOf i) 0)))
-    whole-ruling = plain-settled b v i 0 ∙ ap (λ (c : Counted (Unit {0})). onto c λ u t. after t (got (streamBytes b v (i .ids .«private_id») (sizeOf i) 0))) (sym (whole-begun b v i 0 (searchOf v (i .ids .«private_id») 8) t r refl g p))
+  module _ (b : List ℕ) (v : Volume) (i : Inode) (t : Step) (g : Begins b (searchOf v (i .ids .«private_id») 8) t (scanOf b (searchOf v (i .ids .«private_id») 8) 0))
+      (h : settledTold s ≡ wholeFrom b v i (runAt b (searchOf v (i .ids .«private_id») 8) t (t .from))) where
+    whole-ruling : readPlain b v i 0 ≡ (onto (settledTold s) λ u t. after t (got (streamBytes b v (i .ids .«private_id») (sizeOf i) 0)))
+    whole-ruling = plain-settled b v i 0 ∙ ap (λ (c : Counted (Unit {0})). onto c λ u t. after t (got (streamBytes b v (i .ids .«private_id») (sizeOf i) 0))) (sym (whole-begun b v i 0 (searchOf v (i .ids .«private_id») 8) t s refl g h))
 
-    pub plain-fine : r .ruling ≡ Ruling.Fine
-        → z ≡ puts room (contentsLine (plain (runBytes (extentAt (v .reader) b) (diskOf (v .reader) b) (sizeOf i) 0 (runAt b (searchOf v (i .ids .«private_id») 8) t (t .from)))) []) o → z ≡ run room (plainTrace b v i) o
-    unfolding plainTrace streamBytes
-    plain-fine x h = reading-got room _ _ o _ z (settled-got (r .nodes) (r .ruling) _ _ whole-ruling x) (run-says room _ o z (rw (g .run) at h))
+    pub plain-stopped : (w : Refusal) → q .at ≡ No w → standOf q l ≡ go room (plainCourse b v i) (standOf p l)
+    unfolding plainCourse
+    plain-stopped = line-stopped _ (λ c. contentsLine (plain c) []) _ whole-ruling
 
-    pub plain-refused : (w : Refusal) → r .ruling ≡ Ruling.No w → z ≡ ending (stop w) o → z ≡ run room (plainTrace b v i) o
-    unfolding plainTrace
-    plain-refused w x h = reading-no room _ _ o w z (settled-no (r .nodes) (r .ruling) _ _ whole-ruling w x) h
+    pub plain-written : (z : Output)
+        → z ≡ puts room (contentsLine (plain (runBytes (extentAt (v .reader) b) (diskOf (v .reader) b) (sizeOf i) 0 (runAt b (searchOf v (i .ids .«private_id») 8) t (t .from)))) []) (outputOf (q .at) l)
+        → _≡_ {A = Stand} (record { output = z; nodes = q .nodes }) (go room (plainCourse b v i) (standOf p l))
+    unfolding plainCourse streamBytes
+    plain-written z x = line-written _ (λ c. contentsLine (plain c) []) _ whole-ruling z (rw (g .run) at x)
 
-  pub data-packed : compressed i ≡ 1 → z ≡ puts room (contentsLine shown.packed []) o → z ≡ run room (dataTrace b v i) o
-  unfolding dataTrace
-  data-packed q h = run-says room _ o z h ∙ ap (λ (t : Trace). run room t o) (same _ _ _ _ _ q refl)
+-- an attribute's line, by where its contents lie
+module _ (room : ℕ) (b : List ℕ) (v : Volume) (a : Attribute) (p : Progress) (l : List ℕ) where
+  abbrev written : Counted (List ℕ) → Stand
+  written c = go room (readings c λ d. writes (attributeLine (attributeShown (v .reader) b a d) [])) (standOf p l)
 
-  pub data-plain : (compressed i ≡ 1 → ⊥) → z ≡ run room (plainTrace b v i) o → z ≡ run room (dataTrace b v i) o
-  unfolding dataTrace
-  data-plain q h = h ∙ ap (λ (t : Trace). run room t o) (other _ _ _ _ _ q refl)
+  pub embedded-course : (s : Span) (z : Output) → p .nodes < 2 ^ 64 → a .contents ≡ Embedded s → z ≡ puts room (attributeLine (attributeShown (v .reader) b a (attributeBytes (v .reader) b (a .place) s)) []) (outputOf (p .at) l)
+      → _≡_ {A = Stand} (record { output = z; nodes = p .nodes }) (go room (attributeCourse b v a) (standOf p l))
+  unfolding attributeCourse contentsBy
+  embedded-course s z f q h =
+      go-writes room _ (standOf p l) z h
+      ∙ ap (go room (writes _)) (sym (reads-none (attributeBytes (v .reader) b (a .place) s) (standOf p l) f))
+      ∙ sym (read-got (after 0 (got (attributeBytes (v .reader) b (a .place) s))) _ room (standOf p l) _ refl)
+      ∙ ap (λ (x : AttributeData). written (contentsBy b v (a .place) x 0)) (sym q)
 
-pub ruleset all = (needs, streamed-line, packed-line, stream-fine, stream-refused, embedded-trace, streamed-trace, plain-fine, plain-refused, data-packed, data-plain)
+  pub streamed-course : (d : StreamData) (z : Stand) → a .contents ≡ Stream d → z ≡ go room (streamCourse b v a d) (standOf p l) → z ≡ go room (attributeCourse b v a) (standOf p l)
+  unfolding attributeCourse contentsBy streamCourse
+  streamed-course d z q h = h ∙ ap (λ (x : AttributeData). written (contentsBy b v (a .place) x 0)) (sym q)
+
+module _ (room : ℕ) (b : List ℕ) (v : Volume) (i : Inode) (p : Progress) (l : List ℕ) where
+  pub data-stopped : (w : Refusal) → p .at ≡ No w → standOf p l ≡ go room (dataCourse b v i) (standOf p l)
+  data-stopped w e = stays-no p room (dataCourse b v i) w l e
+
+  pub data-packed : (z : Output) → compressed i ≡ 1 → z ≡ puts room (contentsLine shown.packed []) (outputOf (p .at) l)
+      → _≡_ {A = Stand} (record { output = z; nodes = p .nodes }) (go room (dataCourse b v i) (standOf p l))
+  unfolding dataCourse
+  data-packed z q h = go-writes room _ (standOf p l) z h ∙ ap (λ (c : Course). go room c (standOf p l)) (same _ _ _ _ _ q refl)
+
+  pub data-plain : (z : Stand) → (compressed i ≡ 1 → ⊥) → z ≡ go room (plainCourse b v i) (standOf p l) → z ≡ go room (dataCourse b v i) (standOf p l)
+  unfolding dataCourse plainCourse
+  data-plain z q h = h ∙ ap (λ (c : Course). go room c (standOf p l)) (other _ _ _ _ _ q refl)
+
+pub ruleset all = (needs, streamed-line, packed-line, stream-stopped, stream-written, embedded-course, streamed-course, plain-stopped, plain-written, data-stopped, data-packed, data-plain)

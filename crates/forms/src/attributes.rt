@@ -1,8 +1,8 @@
 // The attributes of a node, a line each.
-use crate::refusing::refuse;
+use crate::reading::read;
+use calls::Progress;
 use cursor::Step;
 use cursor::next;
-use extents::Ruling;
 use lines::put_attribute_embedded;
 use lines::put_attribute_head;
 use lists::AttributeIn;
@@ -26,7 +26,8 @@ ghost use Rattle.lists.specs.Inner.{readable};
 ghost use Rattle.lines.specs.Shown.{attributeShown};
 ghost use Rattle.lines.specs.Lines.{attributeLine};
 ghost use Rattle.streams.specs.Inner.{streamBytes};
-ghost use Rattle.forms.specs.Inner.{run, streamTrace, attributeTrace, attributeTraces};
+ghost use Rattle.forms.specs.Course.{attributeCourse, attributeCourses};
+ghost use Rattle.forms.specs.Inner.{go, standOf, streamCourse};
 
 // A line with a stream's bytes, where the stream can be read.
 pub fn put_streamed(
@@ -50,38 +51,44 @@ pub fn put_streamed(
 fn put_stream(
     out: &mut [u8],
     room: usize,
-    p: Position,
+    p: Progress,
     image: &[u8],
     v: Volume,
     a: Attribute,
     d: StreamData,
-) -> Position
-    ensures { λ r. ⌜ outputOf r (now (out .exit)) ≡ run room (streamTrace (now (image .entry)) v a d) (outputOf p (now (out .entry))) ⌝ }
+) -> Progress
+    ensures { λ r. ⌜ standOf r (now (out .exit)) ≡ go room (streamCourse (now (image .entry)) v a d) (standOf p (now (out .entry))) ⌝ }
 {
     let s = settle_stream(image, v, d.object, d.size, 0);
-    let ruling = s.ruling;
-    match ruling {
-        Ruling::Fine => put_streamed(out, room, p, image, v, a, d, 0),
-        Ruling::No(w) => refuse(p, w),
+    let q = read(p, s);
+    let at = q.at;
+    if let Position::No(_) = at {
+        return q;
+    }
+    Progress {
+        at: put_streamed(out, room, at, image, v, a, d, 0),
+        nodes: q.nodes,
     }
 }
 
 fn put_attribute(
     out: &mut [u8],
     room: usize,
-    p: Position,
+    p: Progress,
     image: &[u8],
     v: Volume,
     a: Attribute,
-) -> Position
-    ensures { λ r. ⌜ outputOf r (now (out .exit)) ≡ run room (attributeTrace (now (image .entry)) v a) (outputOf p (now (out .entry))) ⌝ }
+) -> Progress
+    ensures { λ r. ⌜ standOf r (now (out .exit)) ≡ go room (attributeCourse (now (image .entry)) v a) (standOf p (now (out .entry))) ⌝ }
 {
+    let at = p.at;
     let reader = v.reader;
     let contents = a.contents;
     match contents {
-        AttributeData::Embedded(span) => {
-            put_attribute_embedded(out, room, p, image, reader, a, span)
-        }
+        AttributeData::Embedded(span) => Progress {
+            at: put_attribute_embedded(out, room, at, image, reader, a, span),
+            nodes: p.nodes,
+        },
         AttributeData::Stream(d) => put_stream(out, room, p, image, v, a, d),
     }
 }
@@ -90,13 +97,13 @@ fn put_attribute(
 pub fn put_attributes(
     out: &mut [u8],
     room: usize,
-    p: Position,
+    p: Progress,
     image: &[u8],
     v: Volume,
     id: u64,
     start: Step,
-) -> Position
-    ensures { λ r. ⌜ outputOf r (now (out .exit)) ≡ run room (attributeTraces (now (image .entry)) v (readable (attributeAt (v .reader) (now (image .entry))) (runAt (now (image .entry)) (searchOf v id 4) start (start .from)))) (outputOf p (now (out .entry))) ⌝ }
+) -> Progress
+    ensures { λ r. ⌜ standOf r (now (out .exit)) ≡ go room (attributeCourses (now (image .entry)) v (readable (attributeAt (v .reader) (now (image .entry))) (runAt (now (image .entry)) (searchOf v id 4) start (start .from)))) (standOf p (now (out .entry))) ⌝ }
 {
     let q = search(v, id, 4);
     let keys = q.keys;
@@ -104,11 +111,12 @@ pub fn put_attributes(
     let mut s = start;
     let mut i = s.from;
     loop {
-        if let Position::No(w) = o {
-            return Position::No(w);
+        let at = o.at;
+        if let Position::No(_) = at {
+            return o;
         }
-        let at = s.reached;
-        match attribute_in(image, keys, at, i) {
+        let reached = s.reached;
+        match attribute_in(image, keys, reached, i) {
             AttributeIn::Over => return o,
             AttributeIn::No(_) => return o,
             AttributeIn::Passed => {

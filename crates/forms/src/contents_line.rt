@@ -1,10 +1,10 @@
 // The data of a node: a file's bytes, or that it is packed.
-use crate::refusing::refuse;
+use crate::reading::read;
+use calls::Progress;
 use contents::settle_whole;
 use cursor::Step;
 use cursor::Way;
 use cursor::first;
-use extents::Ruling;
 use files::size_of;
 use inode_record::Inode;
 use lists::list_on;
@@ -26,7 +26,8 @@ ghost use Rattle.records.specs.Extent.{extentAt};
 ghost use Rattle.lists.specs.Lists.{searchOf};
 ghost use Rattle.extents.specs.Extents.{diskOf};
 ghost use Rattle.streams.specs.Inner.{runBytes};
-ghost use Rattle.forms.specs.Inner.{run, plainTrace, dataTrace};
+ghost use Rattle.forms.specs.Course.{dataCourse};
+ghost use Rattle.forms.specs.Inner.{go, standOf, plainCourse};
 
 // The line of a file that can be read whole, its extents from a step on.
 fn put_bytes(
@@ -62,39 +63,51 @@ fn extents_on(image: &[u8], v: Volume, i: Inode, w: Way) -> Step
 fn put_plain(
     out: &mut [u8],
     room: usize,
-    p: Position,
+    p: Progress,
     image: &[u8],
     v: Volume,
     i: Inode,
     w: Way,
-) -> Position
+) -> Progress
     requires { ⌜ Leads (now image) (searchOf v (i .id) 3) 0 w ⌝ }
-    ensures { λ r. ⌜ outputOf r (now (out .exit)) ≡ run room (plainTrace (now (image .entry)) v i) (outputOf p (now (out .entry))) ⌝ }
+    ensures { λ r. ⌜ standOf r (now (out .exit)) ≡ go room (plainCourse (now (image .entry)) v i) (standOf p (now (out .entry))) ⌝ }
 {
     let start = extents_on(image, v, i, w);
     let s = settle_whole(image, v, i, start);
-    let ruling = s.ruling;
-    match ruling {
-        Ruling::Fine => put_bytes(out, room, p, image, v, i, start),
-        Ruling::No(e) => refuse(p, e),
+    let q = read(p, s);
+    let at = q.at;
+    if let Position::No(_) = at {
+        return q;
+    }
+    Progress {
+        at: put_bytes(out, room, at, image, v, i, start),
+        nodes: q.nodes,
     }
 }
 
+// Nothing is read once the position is refused.
 pub fn put_data(
     out: &mut [u8],
     room: usize,
-    p: Position,
+    p: Progress,
     image: &[u8],
     v: Volume,
     i: Inode,
     w: Way,
-) -> Position
+) -> Progress
     requires { ⌜ Leads (now image) (searchOf v (i .id) 3) 0 w ⌝ }
-    ensures { λ r. ⌜ outputOf r (now (out .exit)) ≡ run room (dataTrace (now (image .entry)) v i) (outputOf p (now (out .entry))) ⌝ }
+    ensures { λ r. ⌜ standOf r (now (out .exit)) ≡ go room (dataCourse (now (image .entry)) v i) (standOf p (now (out .entry))) ⌝ }
 {
+    let at = p.at;
+    if let Position::No(_) = at {
+        return p;
+    }
     let owner = i.owner;
     if owner.bsd_flags / 32 % 2 == 1 {
-        return put_all(out, room, p, b"(packed)\n");
+        return Progress {
+            at: put_all(out, room, at, b"(packed)\n"),
+            nodes: p.nodes,
+        };
     }
     put_plain(out, room, p, image, v, i, w)
 }

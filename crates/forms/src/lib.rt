@@ -2,8 +2,9 @@
 mod attributes;
 mod contents_line;
 mod head;
-mod refusing;
+mod reading;
 
 pub use attributes::put_streamed;
 pub use head::put_head;
-pub use refusing::refuse;
+pub use reading::read;
+pub use reading::refuse;

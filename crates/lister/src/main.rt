@@ -44,7 +44,8 @@ fn main() {
                 },
                 &mut out,
             );
-            print_listing(p, &out);
+            let at = p.at;
+            print_listing(at, &out);
         }
         Sliced::No(e) => print_refusal(e),
     }

@@ -1,3 +1,1 @@
-pub mod Nodes
-pub mod Laws
 pub mod Whole

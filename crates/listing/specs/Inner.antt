@@ -1,5 +1,5 @@
--- What the entry writer writes, and the writer of the foot. It needs no belief: a list of entries so written is demand's `entryForms` (`one-more`,
--- proofs/Laws.antt), and a text from the start of a buffer with its foot is demand's `footed` (`foot-run`, proofs/Whole.antt).
+-- What is written above the foot, and the writer of the foot. It needs no belief: a text from the start of a buffer with its foot is demand's `footed`
+-- (`foot-run`, proofs/Whole.antt).
 use Prim.Native.Nat.{ℕ, _≤_}
 use mathlib.Core.List.{List, []}
 use lib.ListN.{length, take}
@@ -7,18 +7,13 @@ use Rattle.text.specs.Output.{Output, at, refused, puts}
 use Rattle.text.specs.declared.Position.{Position}
 use Rattle.text.specs.declared.Position.the-variants.{At, No}
 use Rattle.totals.specs.Totals.{totalsOf}
-use Rattle.lines.specs.Shown.{EntryShown}
 use Rattle.volume.specs.Rule.{ruleOf}
 use Rattle.volume.specs.declared.Volume.{Volume}
 use Rattle.lists.specs.Lists.{rootId}
-use Rattle.lines.specs.Lines.{volumeLine, entryLine, close}
+use Rattle.lines.specs.Lines.{volumeLine}
 use Rattle.demand.specs.Trace.{Trace, says, _then_}
 use Rattle.demand.specs.Listing.{levels, nodeForm, footLines}
 use Rattle.demand.specs.Demand.{viewOf, labelShown}
-
--- "`(entry ID DATE KIND NAME`, the node of that ID, `)`"
-unfoldable pub entryForm : (ℕ → Trace) → EntryShown → Trace
-entryForm form e = says (entryLine e []) then form (e .id) then says (close [])
 
 -- all above the foot: the trace of a listing is this with its foot
 abbrev pub bodyOf : List ℕ → Volume → Trace

@@ -1,6 +1,5 @@
 // The listing of a volume: document 01, "The listing (added)".
 mod list;
-mod writers;
 
 pub use list::list_text;
 pub use list::put_body;

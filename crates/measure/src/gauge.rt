@@ -13,7 +13,8 @@ ghost use mathlib.Core.Path.{_≡_};
 ghost use lib.ListN.{length};
 ghost use Rattle.error.specs.Answer.{no};
 ghost use Rattle.demand.specs.Demand.{viewOf};
-ghost use Rattle.demand.specs.Measure.{ofListing, measured};
+ghost use Rattle.demand.specs.Measure.{most, ofListing, measured};
+ghost use Rattle.forms.specs.Course.{nodesInto};
 ghost use Rattle.measure.specs.Line.{measuredTold};
 
 const MOST: usize = 4294967295;
@@ -22,6 +23,12 @@ const MOST: usize = 4294967295;
 pub enum Measured {
     Got(u64, u64),
     No(Refusal),
+}
+
+// What was measured, and the nodes gone through.
+pub struct Gauged {
+    pub measured: Measured,
+    pub nodes: u64,
 }
 
 // A text that does not fit is too long.
@@ -34,13 +41,18 @@ fn refused(e: Refusal) -> Measured
     Measured::No(e)
 }
 
-pub fn measure_volume(image: &[u8], v: Volume, none: &mut [u8]) -> Measured
+// The walk that counts for the foot goes over what the writers have read: it adds no nodes.
+pub fn measure_volume(image: &[u8], v: Volume, none: &mut [u8], nodes: u64) -> Gauged
     requires { ⌜ length (now none) ≡ 0 ⌝ }
-    ensures { λ r. ⌜ measuredTold r ≡ measured (viewOf (now (image .entry)) v) ⌝ }
+    ensures { λ r. ⌜ (measuredTold (r .measured) ≡ measured (viewOf (now (image .entry)) v)) × (r .nodes ≡ nodesInto most (now (image .entry)) v nodes) ⌝ }
 {
-    let p = put_body(none, MOST, image, v);
-    match p {
-        Position::No(e) => refused(e),
+    let p = put_body(none, MOST, image, v, nodes);
+    let at = p.at;
+    match at {
+        Position::No(e) => Gauged {
+            measured: refused(e),
+            nodes: p.nodes,
+        },
         Position::At(_) => {
             let t = tally_node(image, v, ROOT, levels());
             let totals = Totals {
@@ -48,9 +60,15 @@ pub fn measure_volume(image: &[u8], v: Volume, none: &mut [u8]) -> Measured
                 bytes: t.bytes,
                 attrs: t.attrs,
             };
-            match put_foot(none, MOST, p, totals) {
-                Position::At(n) => Measured::Got(n as u64, t.below),
-                Position::No(e) => refused(e),
+            match put_foot(none, MOST, at, totals) {
+                Position::At(n) => Gauged {
+                    measured: Measured::Got(n as u64, t.below),
+                    nodes: p.nodes,
+                },
+                Position::No(e) => Gauged {
+                    measured: refused(e),
+                    nodes: p.nodes,
+                },
             }
         }
     }

@@ -1,6 +1,7 @@
 // The line of a measurement.
 use crate::gauge::Measured;
 use crate::gauge::measure_volume;
+use calls::Progress;
 use text::Position;
 use text::put_all;
 use text::put_decimal;
@@ -11,9 +12,8 @@ use volume::open_at;
 ghost use mathlib.Core.Path.{_≡_};
 ghost use mathlib.Core.List.{[]};
 ghost use Rattle.text.specs.Output.{outputOf, puts};
-ghost use Rattle.calls.specs.Filled.{filledAt, filled, filledBy};
-ghost use Rattle.demand.specs.Demand.{viewOf};
-ghost use Rattle.measure.specs.Line.{numbersLine, volumeText, measureText};
+ghost use Rattle.calls.specs.Filled.{filledAt, filled, answered, calledBy};
+ghost use Rattle.measure.specs.Line.{numbersLine, measuredOn, measureCounted};
 
 fn put_measure(out: &mut [u8], room: usize, p: Position, length: u64, depth: u64) -> Position
     ensures { λ r. ⌜ outputOf r (now (out .exit)) ≡ puts room (numbersLine length depth []) (outputOf p (now (out .entry))) ⌝ }
@@ -36,23 +36,34 @@ fn show(length: u64, depth: u64, out: &mut [u8]) -> Position
     }
 }
 
-fn volume_line(image: &[u8], v: Volume, out: &mut [u8]) -> Position
-    ensures { λ r. ⌜ filledAt r (now (out .exit)) ≡ filledBy (volumeText (viewOf (now (image .entry)) v)) (now (out .entry)) ⌝ }
+fn volume_line(image: &[u8], v: Volume, nodes: u64, out: &mut [u8]) -> Progress
+    ensures { λ r. ⌜ calledBy r (now (out .exit)) ≡ answered (measuredOn (now (image .entry)) v nodes) (now (out .entry)) ⌝ }
 {
     let mut none = [0u8; 1];
-    match measure_volume(image, v, &mut none[..0]) {
-        Measured::Got(length, depth) => show(length, depth, out),
-        Measured::No(e) => Position::No(e),
+    let g = measure_volume(image, v, &mut none[..0], nodes);
+    let measured = g.measured;
+    match measured {
+        Measured::Got(length, depth) => Progress {
+            at: show(length, depth, out),
+            nodes: g.nodes,
+        },
+        Measured::No(e) => Progress {
+            at: Position::No(e),
+            nodes: g.nodes,
+        },
     }
 }
 
-pub fn measure_text(image: &[u8], which: Which, out: &mut [u8]) -> Position
-    ensures { λ r. ⌜ filledAt r (now (out .exit)) ≡ filledBy (measureText (now (image .entry)) which) (now (out .entry)) ⌝ }
+pub fn measure_text(image: &[u8], which: Which, out: &mut [u8]) -> Progress
+    ensures { λ r. ⌜ calledBy r (now (out .exit)) ≡ answered (measureCounted (now (image .entry)) which) (now (out .entry)) ⌝ }
 {
     let opened = open_at(image, which);
     let volume = opened.volume;
     match volume {
-        VolumeOpening::Got(v) => volume_line(image, v, out),
-        VolumeOpening::No(e) => Position::No(e),
+        VolumeOpening::Got(v) => volume_line(image, v, opened.nodes, out),
+        VolumeOpening::No(e) => Progress {
+            at: Position::No(e),
+            nodes: opened.nodes,
+        },
     }
 }

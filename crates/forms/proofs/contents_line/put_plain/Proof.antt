@@ -1,5 +1,5 @@
-use Rattle.forms.proofs.Lines.{all}
 use borrow.Author.Needs.{needs}
+use Rattle.forms.proofs.Lines.{all}
 use Rattle.forms.proofs.contents_line.put_plain.Statement.{statement}
 use Rattle.forms.proofs.contents_line.put_plain.Tie as tie
 
@@ -9,10 +9,10 @@ put-plain-spec =
     (tie.spec
     (λ c κs. search needs)
     (λ c κs. search needs)
-    (λ c. search needs)
-    (λ c κs. search needs)
-    (λ c. search needs)
     (λ c κs. search needs)
     (λ c. search needs)
     (λ c. search all)
-    (λ c. search (all, c .refuse .ensures)))
+    (λ c. search needs)
+    (λ c κs. search needs)
+    (λ c. search needs)
+    (λ c. search all))

@@ -1,5 +1,5 @@
 use borrow.Author.Needs.{needs}
-use Rattle.forms.proofs.Heads.{heads}
+use Rattle.forms.proofs.Heads.{heads, lists-read}
 use Rattle.forms.proofs.head.read_lists.Statement.{statement}
 use Rattle.forms.proofs.head.read_lists.Tie as tie
 
@@ -9,4 +9,9 @@ read-lists-spec =
     (tie.spec
     (λ c κs. search needs)
     (λ c κs. search needs)
-    (λ c. search heads))
+    (λ c. search needs)
+    (λ c. search (heads, c .before .before .read .ensures))
+    (λ c. search needs)
+    (λ c κs. search needs)
+    (λ c κs. search needs)
+    (λ c. lists-read _ _ (c .before .before .before .before .before .settle-attributes .result) (c .before .before .before .before .before .before .before .args .p) (c .before .before .before .before .read .result) (c .before .before .before .before .before .settle-attributes .ensures) (c .before .before .before .before .read .ensures) (c .before .settle-entries .result) (c .read2 .result) (c .before .settle-entries .ensures) (c .read2 .ensures)))

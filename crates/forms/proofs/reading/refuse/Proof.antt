@@ -1,7 +1,7 @@
 use borrow.Author.Needs.{needs}
-use Rattle.forms.proofs.Running.{refusals}
-use Rattle.forms.proofs.refusing.refuse.Statement.{statement}
-use Rattle.forms.proofs.refusing.refuse.Tie as tie
+use Rattle.forms.proofs.After.{refusals}
+use Rattle.forms.proofs.reading.refuse.Statement.{statement}
+use Rattle.forms.proofs.reading.refuse.Tie as tie
 
 pub refuse-spec : {M : Type 1} → statement M
 refuse-spec =

@@ -1,0 +1,18 @@
+use borrow.Author.Needs.{needs}
+use Rattle.forms.proofs.Heads.{heads}
+use Rattle.forms.proofs.head.settle_entries.Statement.{statement}
+use Rattle.forms.proofs.head.settle_entries.Tie as tie
+
+pub settle-entries-spec : {M : Type 1} → statement M
+settle-entries-spec =
+    tie.close
+    (tie.spec
+    (λ c. search needs)
+    (λ c. search heads)
+    (λ c κs. search needs)
+    (λ c. search needs)
+    (λ c. search needs)
+    (λ c. search needs)
+    (λ c. search heads)
+    (λ c. search heads)
+    (λ c. search heads))
