@@ -14,7 +14,7 @@ use Rattle.nx.proofs.LatestCheckpoint.{latest-checkpoint}
 use Rattle.nx.proofs.Numbers.{numbered-checkpoints}
 use Rattle.calls.specs.Filled.{Filled}
 use Rattle.xid_list.specs.Listed.{xidsIn, xidsBy}
-use Rattle.apfs.specs.Call.{number}
+use Rattle.results.specs.Call.{number}
 use Rattle.apfs.specs.Checkpoints.{Whole, GivesList, written, too-short, empty, ApfsCheckpoints}
 
 module _ (image out : List ℕ) where

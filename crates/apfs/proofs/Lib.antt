@@ -1,8 +1,3 @@
-pub mod Results
-pub mod Listings
-pub mod Entries
-pub mod Xids
-pub mod Mends
 pub mod Views
 pub mod Alike
 pub mod Opened

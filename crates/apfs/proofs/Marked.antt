@@ -16,7 +16,7 @@ use Rattle.marks.specs.Texts.{markText, markedText}
 use Rattle.marks.proofs.Kept.{mark-length}
 use Rattle.marks.proofs.Leads.{leads}
 use Rattle.marks.proofs.Refuses.{refuses}
-use Rattle.apfs.specs.Call.{number, resultOf, bufferOf}
+use Rattle.results.specs.Call.{number, resultOf, bufferOf}
 use Rattle.apfs.specs.Opened.{Refused}
 use Rattle.apfs.specs.Marked.{Wrote, Gives, ApfsBookmarks}
 

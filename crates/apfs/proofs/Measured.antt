@@ -21,15 +21,15 @@ use Rattle.demand.specs.Measure.{Measure, most, measured, measureOf}
 use Rattle.demand.proofs.Parts.{on-view}
 use Rattle.demand.proofs.Measure.{measure-of-view, listing-of-trace, measures}
 use Rattle.listing.specs.Listed.{listedOf}
-use Rattle.measure.specs.Line.{numbersLine, measureLine, volumeText, measureText}
-use Rattle.apfs.specs.Call.{minus, number, resultOf, bufferOf}
+use Rattle.measure.specs.Line.{numbersLine, measureLine, volumeText, measureCounted, measureText}
+use Rattle.results.specs.Call.{minus, number, resultOf, bufferOf}
 use Rattle.apfs.specs.Opened.{Refused}
-use Rattle.apfs.proofs.Listings.{within-room}
+use Rattle.results.proofs.Listings.{within-room}
 use Rattle.apfs.specs.Measured.{measuring, listResult, listBuffer, Lists, Goes, GivesMeasure, told, too-short, refused, ApfsMeasured}
 
 module _ (image : List ℕ) (w : Which) where
   line-of : measuring image w ≡ (measureOf image w >>= λ m. got (measureLine m []))
-  unfolding measureText volumeText
+  unfolding measureCounted volumeText
   line-of =
       on-view image w volumeText (λ p. measureText p w) (λ p. refl) ∙ of (viewAt image w)
       ∙ ap (λ (a : Answer Measure). a >>= λ m. got (measureLine m [])) (sym (measure-of-view image w))

@@ -21,7 +21,7 @@ use Rattle.nx.proofs.LatestCheckpoint.{latest-checkpoint}
 use Rattle.nx.proofs.Numbers.{numbered-checkpoints}
 use Rattle.calls.specs.Filled.{Filled, filled}
 use Rattle.container_line.specs.Container.{containerHead, containerText, openCounted, openText}
-use Rattle.apfs.specs.Call.{number, resultOf, bufferOf}
+use Rattle.results.specs.Call.{number, resultOf, bufferOf}
 use Rattle.apfs.specs.Opened as said
 use Rattle.apfs.specs.Opened.{superblock, objectMap, line, Refused, Taking, atLatest, atNumber, Gives, ApfsOpened}
 

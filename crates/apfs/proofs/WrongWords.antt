@@ -6,7 +6,7 @@ use Rattle.error.proofs.Laws.{le-cases}
 use Rattle.calls.specs.Filled.{Filled}
 use Rattle.wrong_word.specs.Mends.{mendsOf, mendsIn}
 use Rattle.wrong_word.proofs.Complete.{complete}
-use Rattle.apfs.specs.Call.{number}
+use Rattle.results.specs.Call.{number}
 use Rattle.apfs.specs.WrongWords.{Exactly, GivesWords, written, too-short, ApfsWrongWords}
 
 exactly : (object : List ℕ) → Exactly object (mendsOf object)

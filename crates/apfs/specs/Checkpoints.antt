@@ -23,7 +23,7 @@ use Rattle.checkpoints.specs.Numbers.{numbersAt}
 use Rattle.nx.specs.LatestCheckpoint.{blockZero, BlockZeroRead, Candidate}
 use Rattle.nx.specs.Numbers.{Descends, times, HowMany, Numbered}
 use Rattle.xid_list.specs.Listed.{bytesOf, xidsBy}
-use Rattle.apfs.specs.Call.{number}
+use Rattle.results.specs.Call.{number}
 use Rattle.apfs.specs.Opened.{Refused}
 
 -- "the transaction numbers of all accepted checkpoints", "greatest first, repeats kept"

@@ -1,4 +1,3 @@
-pub mod Call
 pub mod Opened
 pub mod Checkpoints
 pub mod WrongWords

@@ -36,7 +36,7 @@ use Rattle.marks.specs.Mark.{markBytes, placeIn}
 use Rattle.marks.specs.Record.{recordLine}
 use Rattle.marks.specs.Texts.{markText, markedText}
 use Rattle.marks.specs.Leads.{Passes}
-use Rattle.apfs.specs.Call.{resultOf, bufferOf}
+use Rattle.results.specs.Call.{resultOf, bufferOf}
 use Rattle.apfs.specs.Opened.{Refused}
 
 abbrev pub markResult : List ℕ → Which → ℕ → ℕ → ℕ → List ℕ → ℤ

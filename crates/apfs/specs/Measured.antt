@@ -25,7 +25,7 @@ use Rattle.demand.specs.Demand.{viewAt, listingOf}
 use Rattle.demand.specs.Measure.{Deep}
 use Rattle.listing.specs.Listed.{listedOf}
 use Rattle.measure.specs.Line.{numbersLine, measureText}
-use Rattle.apfs.specs.Call.{minus, number, resultOf, bufferOf}
+use Rattle.results.specs.Call.{minus, number, resultOf, bufferOf}
 use Rattle.apfs.specs.Opened.{Refused}
 
 abbrev pub measuring : List ℕ → Which → Answer (List ℕ)

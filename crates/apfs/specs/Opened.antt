@@ -31,7 +31,7 @@ use Rattle.nx.specs.Slots.{volumesOf}
 use Rattle.nx.specs.LatestCheckpoint.{blockZero, BlockZeroRead, superblockOf, Candidate, Latest}
 use Rattle.nx.specs.Numbers.{Numbered}
 use Rattle.container_line.specs.Container.{numberWords, openText}
-use Rattle.apfs.specs.Call.{minus, resultOf, bufferOf}
+use Rattle.results.specs.Call.{minus, resultOf, bufferOf}
 
 -- the call is refused with a number
 abbrev pub Refused : List ℕ → ℤ → List ℕ → ℕ → Type 0

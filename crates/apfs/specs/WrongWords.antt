@@ -14,7 +14,7 @@ use lib.IntN.{ℤ, pos}
 use lib.ListN.{length, drop}
 use Rattle.wrong_word.specs.Mends.{Mend, mendsOf, mendsIn, listed}
 use Rattle.wrong_word.specs.Listed.{Mends, Member, Rising}
-use Rattle.apfs.specs.Call.{number}
+use Rattle.results.specs.Call.{number}
 use Rattle.apfs.specs.Opened.{Refused}
 
 -- "list every word from byte 8 on whose replacement alone would make the checksum valid", "No others are listed", "lowest place first and lower word first"

@@ -1,19 +1,19 @@
 // Bookmarks of records: document 02, request 10.
-use crate::answer::refused;
-use crate::answer::result_of;
 use bytes::Sliced;
 use bytes::part;
 use checkpoints::Choice;
 use gpt::part_of_image;
 use marks::mark_text;
 use marks::marked_text;
+use results::refused;
+use results::result_of;
 use volume::Which;
 ghost use mathlib.Core.Path.{_≡_};
 ghost use Rattle.gpt.specs.Part.{onPart};
 ghost use Rattle.checkpoints.specs.declared.by_number.Choice.the-variants.{Latest, Number};
 ghost use Rattle.volume.specs.Open.{latest, numbered};
 ghost use Rattle.marks.specs.Texts.{markText, markedText};
-ghost use Rattle.apfs.specs.Call.{resultOf, bufferOf};
+ghost use Rattle.results.specs.Call.{resultOf, bufferOf};
 
 fn mark_part(image: &[u8], which: Which, id: u64, kind: u8, place: u64, out: &mut [u8]) -> i64
     ensures { λ r. ⌜ (r ≡ resultOf (onPart (λ p. markText p which id kind place) (now (image .entry))) (now (out .entry))) × (now (out .exit) ≡ bufferOf (onPart (λ p. markText p which id kind place) (now (image .entry))) (now (out .entry))) ⌝ }

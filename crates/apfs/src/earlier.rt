@@ -1,6 +1,4 @@
 // The same calls at an earlier checkpoint, by its transaction number: document 02, request 04.
-use crate::answer::refused;
-use crate::answer::result;
 use crate::on_part::entries_part;
 use crate::on_part::entry_part;
 use crate::on_part::extent_part;
@@ -17,6 +15,8 @@ use bytes::Sliced;
 use bytes::part;
 use checkpoints::Choice;
 use gpt::part_of_image;
+use results::refused;
+use results::result;
 use volume::Which;
 use xid_list::list_xids;
 ghost use mathlib.Core.Path.{_≡_};
@@ -31,7 +31,7 @@ ghost use Rattle.attribute_lines.specs.Attributes.{attributeText};
 ghost use Rattle.reads.specs.Reads.{readText, linkText, xattrBytes};
 ghost use Rattle.replaced_line.specs.Line.{replacedText};
 ghost use Rattle.measure.specs.Line.{measureText};
-ghost use Rattle.apfs.specs.Call.{number, resultOf, bufferOf};
+ghost use Rattle.results.specs.Call.{number, resultOf, bufferOf};
 ghost use Rattle.checkpoints.specs.Numbers.{numbersAt};
 ghost use Rattle.checkpoints.specs.declared.by_number.Choice.the-variants.{Number};
 ghost use Rattle.volume.specs.Open.{numbered};

@@ -1,12 +1,11 @@
 // The calls that a host makes: each on the image, numbers and one output buffer. Each first finds the part of the image that a
 // container is in, and reads that as its whole image: document 02, request 01.
-mod answer;
 mod bookmarks;
+mod desk;
 mod earlier;
 mod object;
 mod on_part;
 
-use crate::answer::result;
 use crate::on_part::entries_part;
 use crate::on_part::entry_part;
 use crate::on_part::extent_part;
@@ -24,6 +23,7 @@ pub use bookmarks::apfs_mark_at;
 pub use bookmarks::apfs_marked;
 pub use bookmarks::apfs_marked_at;
 use checkpoints::Choice;
+pub use desk::apfs_desk;
 pub use earlier::apfs_checkpoints;
 pub use earlier::apfs_entries_at;
 pub use earlier::apfs_entry_at;
@@ -39,6 +39,7 @@ pub use earlier::apfs_xattr_at;
 pub use earlier::apfs_xattr_bytes_at;
 pub use object::apfs_wrong_words;
 use part_line::part_text;
+use results::result;
 use volume::Which;
 ghost use mathlib.Core.Path.{_≡_};
 ghost use lib.ListN.{length};
@@ -53,7 +54,7 @@ ghost use Rattle.attribute_lines.specs.Attributes.{attributeText};
 ghost use Rattle.reads.specs.Reads.{readText, linkText, xattrBytes};
 ghost use Rattle.replaced_line.specs.Line.{replacedText};
 ghost use Rattle.measure.specs.Line.{measureText};
-ghost use Rattle.apfs.specs.Call.{number, resultOf, bufferOf};
+ghost use Rattle.results.specs.Call.{number, resultOf, bufferOf};
 ghost use Rattle.checkpoints.specs.declared.by_number.Choice.the-variants.{Latest};
 ghost use Rattle.volume.specs.Open.{latest};
 

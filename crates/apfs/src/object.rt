@@ -1,9 +1,9 @@
 // What is said of an object by its bytes alone: document 02, request 13.
-use crate::answer::result;
+use results::result;
 use wrong_word::wrong_words;
 ghost use mathlib.Core.Path.{_≡_};
 ghost use Rattle.wrong_word.specs.Mends.{mendsOf, mendsIn};
-ghost use Rattle.apfs.specs.Call.{number};
+ghost use Rattle.results.specs.Call.{number};
 
 // Every single word whose replacement makes a failing object valid, 12 bytes an entry; the result is how many.
 #[no_mangle]

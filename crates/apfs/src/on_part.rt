@@ -1,7 +1,4 @@
 // Each call on the part of the image that a container is in, of any checkpoint: document 02, requests 01 and 04.
-use crate::answer::refused;
-use crate::answer::result;
-use crate::answer::result_of;
 use attribute_lines::attribute_text;
 use bytes::Sliced;
 use bytes::part;
@@ -19,6 +16,9 @@ use reads::link_text;
 use reads::read_text;
 use reads::xattr_bytes;
 use replaced_line::replaced_text;
+use results::refused;
+use results::result;
+use results::result_of;
 use volume::Which;
 ghost use mathlib.Core.Path.{_≡_};
 ghost use lib.ListN.{length};
@@ -32,7 +32,7 @@ ghost use Rattle.attribute_lines.specs.Attributes.{attributeText};
 ghost use Rattle.reads.specs.Reads.{readText, linkText, xattrBytes};
 ghost use Rattle.replaced_line.specs.Line.{replacedText};
 ghost use Rattle.measure.specs.Line.{measureText};
-ghost use Rattle.apfs.specs.Call.{number, resultOf, bufferOf};
+ghost use Rattle.results.specs.Call.{number, resultOf, bufferOf};
 
 // The line of a container.
 pub fn open_part(image: &[u8], choice: Choice, out: &mut [u8]) -> i64
@@ -119,7 +119,7 @@ pub fn measure_part(image: &[u8], which: Which, out: &mut [u8]) -> i64
     ensures { λ r. ⌜ (r ≡ resultOf (onPart (λ p. measureText p which) (now (image .entry))) (now (out .entry))) × (now (out .exit) ≡ bufferOf (onPart (λ p. measureText p which) (now (image .entry))) (now (out .entry))) ⌝ }
 {
     match part_of_image(image) {
-        Sliced::Got(s) => result(measure_text(part(image, s), which, out)),
+        Sliced::Got(s) => result_of(measure_text(part(image, s), which, out)),
         Sliced::No(e) => refused(e),
     }
 }
@@ -156,7 +156,7 @@ pub fn list_part(image: &[u8], which: Which, out: &mut [u8]) -> i64
     ensures { λ r. ⌜ (r ≡ number (listedOf (listingOf (now (image .entry)) which (length (now (out .entry)))) (now (out .entry)) .answer)) × (now (out .exit) ≡ listedOf (listingOf (now (image .entry)) which (length (now (out .entry)))) (now (out .entry)) .buffer) ⌝ }
 {
     match part_of_image(image) {
-        Sliced::Got(s) => result(list_text(part(image, s), which, out)),
+        Sliced::Got(s) => result_of(list_text(part(image, s), which, out)),
         Sliced::No(e) => result(refuse_zeroed(out, e)),
     }
 }

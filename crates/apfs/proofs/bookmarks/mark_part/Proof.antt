@@ -1,5 +1,5 @@
 use borrow.Author.Needs.{needs}
-use Rattle.apfs.proofs.Results.{ends}
+use Rattle.results.proofs.Results.{ends}
 use Rattle.apfs.proofs.bookmarks.mark_part.Statement.{statement}
 use Rattle.apfs.proofs.bookmarks.mark_part.Tie as tie
 

@@ -1,5 +1,5 @@
 use borrow.Author.Needs.{needs}
-use Rattle.apfs.proofs.Xids.{xids}
+use Rattle.results.proofs.Xids.{xids}
 use Rattle.apfs.proofs.earlier.apfs_checkpoints.Statement.{statement}
 use Rattle.apfs.proofs.earlier.apfs_checkpoints.Tie as tie
 

@@ -1,5 +1,5 @@
 use borrow.Author.Needs.{needs}
-use Rattle.apfs.proofs.Mends.{mends}
+use Rattle.results.proofs.Mends.{mends}
 use Rattle.apfs.proofs.object.apfs_wrong_words.Statement.{statement}
 use Rattle.apfs.proofs.object.apfs_wrong_words.Tie as tie
 

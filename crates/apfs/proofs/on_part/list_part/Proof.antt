@@ -1,6 +1,6 @@
 use borrow.Author.Needs.{needs}
 use Rattle.demand.specs.Demand.{listingOf}
-use Rattle.apfs.proofs.Listings.{listed}
+use Rattle.results.proofs.Listings.{listed}
 use Rattle.apfs.proofs.on_part.list_part.Statement.{statement}
 use Rattle.apfs.proofs.on_part.list_part.Tie as tie
 

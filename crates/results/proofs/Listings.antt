@@ -17,10 +17,11 @@ use Rattle.volume.specs.declared.Which.{Which}
 use Rattle.demand.specs.Trace.{End, done, stop, Trace, textOr, within}
 use Rattle.demand.specs.Listing.{trace, listing}
 use Rattle.demand.specs.Demand.{viewOfPart, listingOfPart}
-use Rattle.calls.specs.Filled.{Filled, filledAt, positioned}
-use Rattle.listing.specs.Listed.{listedOf}
-use Rattle.apfs.specs.Call.{minus, number, resultAt, Within}
-use Rattle.apfs.proofs.Results.{result-back, refused-is}
+use Rattle.calls.specs.Filled.{Filled, filledAt, positioned, Answered, calledBy}
+use Rattle.calls.specs.declared.Progress.{Progress}
+use Rattle.listing.specs.Listed.{listedOf, listedBy, listCounted}
+use Rattle.results.specs.Call.{minus, number, resultAt, Within}
+use Rattle.results.proofs.Results.{result-back, refused-is}
 
 pub within-room : (room : ℕ) (t : Trace) (s : List ℕ) → within room t ≡ got s → length s ≤ room
 unfolding within
@@ -66,4 +67,19 @@ module _ (e : Refusal) (out x : List ℕ) (r : Position) (p : filledAt r x ≡ l
   pub zeroed-buffer : x ≡ replicate (length out) 0
   zeroed-buffer = ap (λ (l : Filled). l .buffer) p
 
-pub ruleset listed = (needs, list-within, list-result, list-buffer, zeroed-within, zeroed-result, zeroed-buffer)
+-- the same of a listing that counts its nodes
+module _ (image : List ℕ) (index : Which) (out x : List ℕ) (r : Progress) (p : calledBy r x ≡ listedBy (listCounted image index (length out)) out) where
+  without-nodes : filledAt (r .at) x ≡ listedOf (listingOfPart image index (length out)) out
+  unfolding listCounted
+  without-nodes = ap (λ (m : Answered). m .result) p
+
+  pub progress-within : length out * 1 < 2 ^ 63 → Within (r .at)
+  progress-within s = list-within image index out x (r .at) without-nodes s
+
+  pub progress-result : length out * 1 < 2 ^ 63 → (z : ℤ) → z ≡ resultAt (r .at) → toZ w64 (ofZ w64 z) ≡ number (listedOf (listingOfPart image index (length out)) out .answer)
+  progress-result s z e = list-result image index out x (r .at) without-nodes s z e
+
+  pub progress-buffer : x ≡ listedOf (listingOfPart image index (length out)) out .buffer
+  progress-buffer = ap (λ (m : Filled). m .buffer) without-nodes
+
+pub ruleset listed = (needs, progress-within, progress-result, progress-buffer, zeroed-within, zeroed-result, zeroed-buffer)

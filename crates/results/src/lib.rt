@@ -5,7 +5,7 @@ use error::number_of;
 use text::Position;
 ghost use mathlib.Core.Path.{_≡_};
 ghost use Rattle.error.specs.Answer.{numberOf};
-ghost use Rattle.apfs.specs.Call.{minus, resultAt, Within};
+ghost use Rattle.results.specs.Call.{minus, resultAt, Within};
 
 pub fn refused(e: Refusal) -> i64
     ensures { λ r. ⌜ r ≡ minus (numberOf e) ⌝ }

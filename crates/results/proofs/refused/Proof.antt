@@ -1,7 +1,7 @@
 use borrow.Author.Needs.{needs}
-use Rattle.apfs.proofs.Results.{negated}
-use Rattle.apfs.proofs.answer.refused.Statement.{statement}
-use Rattle.apfs.proofs.answer.refused.Tie as tie
+use Rattle.results.proofs.Results.{negated}
+use Rattle.results.proofs.refused.Statement.{statement}
+use Rattle.results.proofs.refused.Tie as tie
 
 pub refused-spec : {M : Type 1} → statement M
 refused-spec =

@@ -12,8 +12,8 @@ use Rattle.error.proofs.Laws.{le-cases}
 use Rattle.text.specs.declared.Position.{Position}
 use Rattle.text.specs.declared.Position.the-variants.{At, No}
 use Rattle.calls.specs.Filled.{Filled, filledAt, entriesIn}
-use Rattle.apfs.specs.Call.{number, resultAt, Within}
-use Rattle.apfs.proofs.Results.{result-back}
+use Rattle.results.specs.Call.{number, resultAt, Within}
+use Rattle.results.proofs.Results.{result-back}
 
 -- no more entries than bytes
 pub entries-within : (k n : ℕ) (t b x : List ℕ) (r : Position) → n ≤ k * n → length b * 1 < 2 ^ 63 → filledAt r x ≡ entriesIn k n t b → Within r

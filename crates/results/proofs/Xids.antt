@@ -13,9 +13,9 @@ use Rattle.text.specs.declared.Position.{Position}
 use Rattle.text.specs.declared.Position.the-variants.{At, No}
 use Rattle.calls.specs.Filled.{Filled, filledAt}
 use Rattle.xid_list.specs.Listed.{bytesOf, xidsIn, xidsBy}
-use Rattle.apfs.specs.Call.{number, resultAt, Within}
-use Rattle.apfs.proofs.Results.{refused-is}
-use Rattle.apfs.proofs.Entries.{entries-within, counted-result, counted-buffer}
+use Rattle.results.specs.Call.{number, resultAt, Within}
+use Rattle.results.proofs.Results.{refused-is}
+use Rattle.results.proofs.Entries.{entries-within, counted-result, counted-buffer}
 
 module _ (a : Answer (List ℕ)) (b x : List ℕ) (r : Position) (p : filledAt r x ≡ xidsBy a b) (s : length b * 1 < 2 ^ 63) where
   pub xids-within : Within r

@@ -11,8 +11,8 @@ use mir.Val.{toZ, ofZ}
 use Rattle.text.specs.declared.Position.{Position}
 use Rattle.calls.specs.Filled.{filledAt}
 use Rattle.wrong_word.specs.Mends.{Mend, listed, mendsIn}
-use Rattle.apfs.specs.Call.{number, resultAt, Within}
-use Rattle.apfs.proofs.Entries.{entries-within, counted-result, counted-buffer}
+use Rattle.results.specs.Call.{number, resultAt, Within}
+use Rattle.results.proofs.Entries.{entries-within, counted-result, counted-buffer}
 
 module _ (ms : List Mend) (b x : List ℕ) (r : Position) (p : filledAt r x ≡ mendsIn ms b) (s : length b * 1 < 2 ^ 63) where
   pub mends-within : Within r

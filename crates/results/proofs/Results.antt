@@ -19,7 +19,7 @@ use Rattle.text.specs.declared.Position.the-variants.{At, No}
 use Rattle.lookup.specs.Counted.{Counted}
 use Rattle.calls.specs.Filled.{Filled, filled, filledBy, filledAt, Answered, answered, calledBy}
 use Rattle.calls.specs.declared.Progress.{Progress}
-use Rattle.apfs.specs.Call.{minus, number, resultOf, bufferOf, resultAt, Within}
+use Rattle.results.specs.Call.{minus, number, resultOf, bufferOf, resultAt, Within}
 
 -- a refusal's number as an i64
 minus-back : (e : Refusal) → toZ w64 (ofZ w64 (minus (numberOf e))) ≡ minus (numberOf e)

@@ -1,7 +1,7 @@
 use borrow.Author.Needs.{needs}
-use Rattle.apfs.proofs.Results.{results}
-use Rattle.apfs.proofs.answer.result.Statement.{statement}
-use Rattle.apfs.proofs.answer.result.Tie as tie
+use Rattle.results.proofs.Results.{results}
+use Rattle.results.proofs.result.Statement.{statement}
+use Rattle.results.proofs.result.Tie as tie
 
 pub result-spec : {M : Type 1} → statement M
 result-spec =

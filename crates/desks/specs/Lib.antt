@@ -1,0 +1,4 @@
+pub mod Requests
+pub mod Inner
+pub mod Desks
+pub mod Alone
