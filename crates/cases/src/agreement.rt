@@ -19,7 +19,7 @@ fn kind_of(op: u8, refusal: u8) -> usize {
     if op < 3 {
         return 0;
     }
-    if 23 < op {
+    if 24 < op {
         return 0;
     }
     if 18 < refusal {
@@ -28,7 +28,7 @@ fn kind_of(op: u8, refusal: u8) -> usize {
     (op - 3) as usize * 19 + refusal as usize
 }
 
-pub fn counted(t: Tally, r: Record, same: bool, kinds: &mut [u64; 399]) -> Tally {
+pub fn counted(t: Tally, r: Record, same: bool, kinds: &mut [u64; 418]) -> Tally {
     if !same {
         return Tally {
             titled: t.titled,
@@ -38,7 +38,7 @@ pub fn counted(t: Tally, r: Record, same: bool, kinds: &mut [u64; 399]) -> Tally
         };
     }
     let k = kind_of(r.op, r.refusal);
-    if k < 399 {
+    if k < 418 {
         kinds[k] = one_more(kinds[k]);
     }
     Tally {
@@ -77,7 +77,8 @@ fn print_export_at(op: usize) -> bool {
         17 => io::write_all(1, b"apfs_mark: "),
         18 => io::write_all(1, b"apfs_mark_at: "),
         19 => io::write_all(1, b"apfs_marked: "),
-        _ => io::write_all(1, b"apfs_marked_at: "),
+        20 => io::write_all(1, b"apfs_marked_at: "),
+        _ => io::write_all(1, b"at a desk: "),
     }
 }
 
@@ -113,9 +114,9 @@ fn print_kind(op: usize, refusal: usize, n: u64) {
     io::print_decimal(1, refusal as u64);
 }
 
-pub fn print_kinds(kinds: &[u64; 399]) {
+pub fn print_kinds(kinds: &[u64; 418]) {
     let mut k = 0;
-    while k < 399 {
+    while k < 418 {
         print_kind(k / 19, k % 19, kinds[k]);
         k += 1;
         if k % 19 == 0 {

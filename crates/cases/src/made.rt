@@ -1,4 +1,5 @@
 // A recorded call, made.
+use crate::at_desk::made_at_desk;
 use crate::record::Record;
 use crate::record::value;
 use apfs::apfs_checkpoints;
@@ -50,7 +51,8 @@ fn made_marked(r: Record, image: &[u8], input: &[u8], out: &mut [u8]) -> i64 {
             out,
         ),
         22 => apfs_marked(image, input, out),
-        _ => apfs_marked_at(image, r.a, input, out),
+        23 => apfs_marked_at(image, r.a, input, out),
+        _ => made_at_desk(r, image, input, out),
     }
 }
 
@@ -134,7 +136,7 @@ pub fn agrees(r: Record, image: &[u8], input: &[u8], out: &mut [u8]) -> bool {
     if r.op < 3 {
         return false;
     }
-    if 23 < r.op {
+    if 24 < r.op {
         return false;
     }
     if out.len() < room {

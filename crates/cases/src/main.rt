@@ -1,5 +1,6 @@
 // Document 01's cases, and a sample of calls on sticks: makes each recorded call, and says how many agree.
 mod agreement;
+mod at_desk;
 mod image;
 mod made;
 mod record;
@@ -32,7 +33,7 @@ fn gone_through(
     t: Tally,
     image: &mut [u8],
     out: &mut [u8],
-    kinds: &mut [u64; 399],
+    kinds: &mut [u64; 418],
 ) -> Tally {
     let op = r.op;
     if op == TITLE {
@@ -76,7 +77,7 @@ fn filled(input: &mut [u8], len: usize) -> bool {
 }
 
 // Whether the file was gone through to its end.
-fn replay(input: &mut [u8], image: &mut [u8], out: &mut [u8], kinds: &mut [u64; 399]) -> bool {
+fn replay(input: &mut [u8], image: &mut [u8], out: &mut [u8], kinds: &mut [u64; 418]) -> bool {
     let mut tally = Tally {
         titled: false,
         agree: 0,
@@ -104,7 +105,7 @@ fn replay(input: &mut [u8], image: &mut [u8], out: &mut [u8], kinds: &mut [u64; 
 fn replay_into(image: &mut [u8]) {
     let mut input = [0u8; 65536];
     let mut out = [0u8; 65536];
-    let mut kinds = [0u64; 399];
+    let mut kinds = [0u64; 418];
     let whole = replay(&mut input, image, &mut out, &mut kinds);
     print_kinds(&kinds);
     if !whole {

@@ -29,16 +29,17 @@ pub fn read(p: Progress, s: Settled) -> Progress
 {
     let at = p.at;
     let ruling = s.ruling;
+    let nodes = plus(p.nodes, s.nodes);
     match at {
         Position::No(_) => p,
         Position::At(_) => match ruling {
             Ruling::Fine => Progress {
                 at: at,
-                nodes: plus(p.nodes, s.nodes),
+                nodes: nodes,
             },
             Ruling::No(e) => Progress {
                 at: Position::No(e),
-                nodes: plus(p.nodes, s.nodes),
+                nodes: nodes,
             },
         },
     }

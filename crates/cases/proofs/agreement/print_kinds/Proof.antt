@@ -5,10 +5,10 @@ use Rattle.cases.proofs.agreement.print_kinds.Statement.{statement}
 use Rattle.cases.proofs.agreement.print_kinds.Tie as tie
 
 abbrev Inv-loop : tie.InvT-loop
-Inv-loop kinds k₀ t3 k = k ≤ 399
+Inv-loop kinds k₀ t3 k = k ≤ 418
 
 abbrev μ-loop : tie.MeasureT-loop
-μ-loop kinds k₀ t3 k = 399 - k
+μ-loop kinds k₀ t3 k = 418 - k
 
 pub print-kinds-spec : {M : Type 1} → statement M
 print-kinds-spec =

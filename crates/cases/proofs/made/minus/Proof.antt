@@ -1,6 +1,6 @@
 -- `made::minus` meets its contract: minus a byte fits an `i64`.
 use borrow.Author.Needs.{needs}
-use Rattle.apfs.proofs.Results.{negated}
+use Rattle.results.proofs.Results.{negated}
 use Rattle.cases.proofs.made.minus.Statement.{statement}
 use Rattle.cases.proofs.made.minus.Tie as tie
 
