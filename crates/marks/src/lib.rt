@@ -1,4 +1,4 @@
-// Bookmarks: a record's place in 24 bytes that a desk keeps, and the record that one handed in leads to. Document 02, request 10.
+// Bookmarks: a record's place in 24 bytes, and the record that one handed in leads to. Document 02, request 10.
 mod handed;
 mod mark;
 mod on_image;
