@@ -45,6 +45,8 @@ pub mod recorded;
 #[cfg(oracle)]
 pub mod sample;
 #[cfg(oracle)]
+pub mod trees;
+#[cfg(oracle)]
 pub mod volumes;
 #[cfg(oracle)]
 pub mod walk;

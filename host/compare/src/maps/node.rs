@@ -2,7 +2,7 @@
 
 use std::ops::Range;
 
-use sticks::block::{is_sealed, BTREE, BTREE_NODE};
+use sticks::block::{is_sealed, BTREE, BTREE_NODE, OMAP, PHYSICAL};
 
 const ROOT: u64 = 0x1;
 const LEAF: u64 = 0x2;
@@ -16,6 +16,7 @@ const INFO: usize = 40;
 const HIGHEST: u64 = 32;
 const NO_VALUE: usize = 0xffff;
 
+const STORAGE: u32 = 0xc000_0000;
 const PHYSICAL_TREE: u64 = 0x10;
 /// Bytes of a map's keys and values, and of a child's address.
 pub const KEY: usize = 16;
@@ -54,6 +55,13 @@ impl<'a> Disk<'a> {
 
     pub fn node(&self, block: u64) -> Option<Node<'a>> {
         Node::parse(self.object(block)?)
+    }
+
+    /// The block that the object map in a block names as its tree's root.
+    pub fn map_root(&self, block: u64) -> Option<u64> {
+        let map = self.object(block)?;
+        let is_map = number(map, 24, 2)? as u32 == OMAP && number(map, 40, 4)? as u32 & STORAGE == PHYSICAL;
+        number(map, 48, 8).filter(|_| is_map)
     }
 }
 

@@ -3,13 +3,10 @@
 use std::collections::BTreeSet;
 use std::fmt;
 
-use sticks::block::{OMAP, PHYSICAL};
-
 use crate::maps::node::{number, Disk, Node};
 use crate::maps::{Key, Mapping, Said};
 use crate::opening::answer::Answer;
 
-const STORAGE: u32 = 0xc000_0000;
 const DELETED: u32 = 0x1;
 const CORRUPT: u64 = 2;
 
@@ -96,9 +93,7 @@ impl Map {
     /// None where there is no root.
     fn of(image: &[u8], block: u64) -> Option<Result<Map, Fault>> {
         let disk = Disk::of(image)?;
-        let map = disk.object(block)?;
-        let is_map = number(map, 24, 2)? as u32 == OMAP && number(map, 40, 4)? as u32 & STORAGE == PHYSICAL;
-        let root = number(map, 48, 8).filter(|_| is_map)?;
+        let root = disk.map_root(block)?;
         let node = disk.node(root).filter(Node::is_map_root)?;
         let mut reading = Reading { disk, nodes: BTreeSet::from([root]) };
         let tree = reading.tree(&node);
@@ -225,7 +220,8 @@ impl Kind {
     }
 }
 
-fn mapping(value: &[u8]) -> Option<Mapping> {
+/// The fields of a mapping.
+pub fn mapping(value: &[u8]) -> Option<Mapping> {
     let (flags, size) = (number(value, 0, 4)? as u32, number(value, 4, 4)? as u32);
     Some(Mapping { flags, size, block: number(value, 8, 8)? })
 }

@@ -3,8 +3,8 @@
 use sticks::random::Random;
 
 use crate::calls::call::Call;
-use crate::marks::walk::Head;
 use crate::marks::{Mark, Part, LENGTH, NONE};
+use crate::trees::Head;
 
 /// What marks are drawn about.
 pub struct Ground<'a> {

@@ -7,9 +7,10 @@ use oracle::probe;
 
 use crate::calls::expected::{answered, Stop, Told};
 use crate::marks::handed::{record, Record};
-use crate::marks::walk::{self, Head};
+use crate::marks::walk;
 use crate::marks::Mark;
 use crate::opening::answer::{caught, Answer};
+use crate::trees::Head;
 
 pub const RECORD: &str = "record";
 pub const PAST: &str = "past the end";
@@ -47,7 +48,7 @@ impl Records {
             Err(Answer::Overflow) => End::Overflow,
             Err(a) => panic!("{a}"),
         };
-        let (marks, whole) = walk::marks(part, v, head);
+        let (marks, whole) = walk::marks(part, c, v, head);
         assert_eq!((marks.len(), whole), (lines.len(), end == End::Whole), "the walk's records of {head:?}");
         for (mark, line) in marks.iter().zip(&lines) {
             let found = record(part, c.block_size().into(), &mark.bytes()).map(|r| r.line());

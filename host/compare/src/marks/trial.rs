@@ -14,9 +14,10 @@ use crate::marks::draw::{self, Drawn, Ground};
 use crate::marks::handed;
 use crate::marks::records::Records;
 use crate::marks::tally::Tally;
-use crate::marks::walk::{self, Head};
+use crate::marks::walk;
 use crate::marks::Mark;
 use crate::opening::answer::{self, caught};
+use crate::trees::Head;
 
 /// Of a damaged superblock's volumes, no more are asked about.
 const VOLUMES: u64 = 5;
@@ -73,7 +74,7 @@ impl Trial<'_> {
 
     /// The records of the ids and kinds that there are, and of others. The marks of entries without a value.
     fn volume(&mut self, part: &[u8], c: &Container, (i, v): (u64, &Volume)) -> Result<Vec<Mark>, Box<Mismatch>> {
-        let survey = walk::survey(part, v);
+        let survey = walk::survey(part, c, v);
         let mut heads: Vec<Head> = survey.heads.iter().copied().collect();
         let absent = draw::absent(&heads, &mut self.random);
         if self.share == Share::Some {
