@@ -2,10 +2,12 @@
 //! minus the refusal's number; `checkpoints` and `wrong_words` answer how many entries.
 //!
 //! Without a feature the crate is empty: `open` has opening, its checkpoints, the part that is opened and what is said of
-//! an object, `calls` also the calls on a volume and on bookmarks.
+//! an object, `calls` also the calls on a volume and on bookmarks, and all of them by the desks of a dock.
 
 #[cfg(feature = "calls")]
 pub mod calls;
+#[cfg(feature = "calls")]
+pub mod desks;
 #[cfg(feature = "calls")]
 pub mod marks;
 #[cfg(feature = "open")]

@@ -11,7 +11,7 @@ use compare::opening::{answer, Open};
 use compare::pairs::{self, by_oracle, Ports};
 use compare::volumes::Volumes;
 use compare::words;
-use compare::{bench, cases, checkpoints, list, maps, marks, parts, reach, record, recorded, sample};
+use compare::{bench, cases, checkpoints, desks, list, maps, marks, parts, reach, record, recorded, sample};
 
 use sticks::gpt::expected_part;
 
@@ -85,6 +85,13 @@ fn checkpoints_ports() -> Option<checkpoints::Ports<'static>> {
             measure: &|image, xid, volume, out| measure(image, Which::at(xid, volume), out),
         });
     }
+    #[cfg(not(feature = "calls"))]
+    None
+}
+
+fn desks_ports() -> Option<desks::Ports<'static>> {
+    #[cfg(feature = "calls")]
+    return Some(desks::port::PORTS);
     #[cfg(not(feature = "calls"))]
     None
 }
@@ -252,6 +259,15 @@ pub fn words(seed: u64, count: u64) {
     print!("seed {seed}, {count} objects\n{}", run.tally);
     let good = saw_all(!run.report_failure(Path::new("target")), run.tally.missing());
     finish("words", good, if words_port().is_some() { "all agree" } else { "the account alone was tried" });
+}
+
+pub fn desks(seed: u64, count: u64) {
+    answer::silence_panics();
+    let run = desks::run::Run::over(seed, count, desks_ports());
+    print!("seed {seed}, {count} sticks, {} images\n{}", run.images, run.tally);
+    let missing = if desks_ports().is_some() { run.tally.missing() } else { Vec::new() };
+    let good = saw_all(!run.report_failure(desks_ports(), Path::new("target")), missing);
+    finish("desks", good, if desks_ports().is_some() { "all agree" } else { "the oracle alone was asked" });
 }
 
 pub fn reach(seed: u64, count: u64) {

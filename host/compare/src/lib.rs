@@ -20,6 +20,8 @@ pub mod checkpoints;
 #[cfg(oracle)]
 pub mod comparison;
 #[cfg(oracle)]
+pub mod desks;
+#[cfg(oracle)]
 pub mod expected;
 pub mod image;
 pub mod leaf;

@@ -18,13 +18,15 @@
 //! cargo run --release -p compare -- pairs           two sticks at a time: the same contents, and one thing changed
 //! cargo run --release -p compare -- maps            their object maps held against a walk over all entries
 //! cargo run --release -p compare -- words           the lists of wrong words of failing objects
+//! cargo run --release -p compare -- desks           the node counts of desks that make all of these calls
 //! cargo run --release -p compare -- reach           every call of the oracle on sticks, and what became of it
 //! cargo run --release -p compare -- open FILE..     open these images, and print each answer
 //! ```
 //!
 //! After `rt staticlib apfs`, with `--features apfs`, `sticks`, `words` and `open` hold the port's opening and its lists of wrong words
-//! against the oracle's, and with `--features calls` `volumes`, `calls`, `list`, `parts`, `checkpoints` and `pairs` do
-//! the same of its calls and its listings; without these features they ask the oracle alone, as `maps` always does.
+//! against the oracle's, and with `--features calls` `volumes`, `calls`, `list`, `parts`, `checkpoints`, `pairs` and
+//! `desks` do the same of its calls, its listings and its counts; without these features they ask the oracle alone, as
+//! `maps` always does.
 //! Timings of both:
 //!
 //! ```text
@@ -59,8 +61,10 @@ const DEFAULT_FOR_PAIRS: u64 = 300;
 const DEFAULT_FOR_MAPS: u64 = 2000;
 /// Objects of up to 16,384 bytes, of which the oracle sums all for each word.
 const DEFAULT_FOR_WORDS: u64 = 20_000;
+/// Each stick has some eight images, and some 60 calls are made on each volume of one.
+const DEFAULT_FOR_DESKS: u64 = 100;
 const USAGE: &str =
-    "usage: compare [record FILE | record-calls FILE | replay FILE | sticks | volumes | calls | list | parts | checkpoints | pairs | maps | words | reach | bench | open FILE..] \
+    "usage: compare [record FILE | record-calls FILE | replay FILE | sticks | volumes | calls | list | parts | checkpoints | pairs | maps | words | desks | reach | bench | open FILE..] \
                      [--seed N] [--count K]";
 
 enum Command {
@@ -77,6 +81,7 @@ enum Command {
     Pairs,
     Maps,
     Words,
+    Desks,
     Reach,
     Bench,
     Open(Vec<String>),
@@ -117,6 +122,7 @@ fn arguments() -> Arguments {
         Command::Pairs => DEFAULT_FOR_PAIRS,
         Command::Maps => DEFAULT_FOR_MAPS,
         Command::Words => DEFAULT_FOR_WORDS,
+        Command::Desks => DEFAULT_FOR_DESKS,
         _ => DEFAULT_STICKS,
     };
     Arguments { command, seed, count: count.unwrap_or(usual) }
@@ -137,6 +143,7 @@ fn command(words: &[String]) -> Command {
         ["pairs"] => Command::Pairs,
         ["maps"] => Command::Maps,
         ["words"] => Command::Words,
+        ["desks"] => Command::Desks,
         ["reach"] => Command::Reach,
         ["bench"] => Command::Bench,
         ["open", _, ..] => Command::Open(words[1..].to_vec()),
@@ -172,6 +179,7 @@ fn main() {
         Command::Pairs => commands::pairs(seed, count),
         Command::Maps => commands::maps(seed, count),
         Command::Words => commands::words(seed, count),
+        Command::Desks => commands::desks(seed, count),
         Command::Reach => commands::reach(seed, count),
         Command::Bench => commands::bench(),
         Command::Open(files) => commands::open(&files),

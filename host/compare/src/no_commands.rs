@@ -52,6 +52,10 @@ pub fn words(_seed: u64, _count: u64) {
     none()
 }
 
+pub fn desks(_seed: u64, _count: u64) {
+    none()
+}
+
 pub fn reach(_seed: u64, _count: u64) {
     none()
 }

@@ -1,7 +1,7 @@
 //! The functions that the port's archives export, made safe.
 
 #[cfg(feature = "calls")]
-pub use exports::{calls, marks};
+pub use exports::{calls, desks, marks};
 #[cfg(feature = "apfs")]
 pub use exports::{checkpoints, open, open_at, part, wrong_words};
 

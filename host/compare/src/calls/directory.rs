@@ -44,7 +44,13 @@ pub struct Directories<'v> {
 
 impl<'v> Directories<'v> {
     pub fn of(v: &'v Volume<'v>, rule: Rule) -> Directories<'v> {
-        Directories { v, rule, hashed: keys::are_hashed(v), account: Cell::default(), common: RefCell::default() }
+        Directories {
+            v,
+            rule,
+            hashed: keys::are_hashed(&v.sb.raw),
+            account: Cell::default(),
+            common: RefCell::default(),
+        }
     }
 
     /// Whose account was used since it was last taken.

@@ -1,7 +1,6 @@
 //! Directory keys as the Apple File System Reference has them, for directories that the Rust reads otherwise: it tells
 //! a key's form by its length, and wants 12 bytes of any.
 
-use oracle::fs::Volume;
 use sticks::block::{get16, get32, get64};
 
 /// `apfs_incompatible_features` of a volume's superblock.
@@ -15,9 +14,9 @@ const LENGTH: u32 = 0x3ff;
 /// The Rust reads 4 bytes behind the head of any key.
 const SHORTEST: usize = 12;
 
-/// Whether the volume's keys are `j_drec_hashed_key_t`; else they are `j_drec_key_t`.
-pub fn are_hashed(v: &Volume) -> bool {
-    get64(&v.sb.raw, FEATURES) & INSENSITIVE != 0
+/// Whether the keys of a volume that has this superblock are `j_drec_hashed_key_t`; else they are `j_drec_key_t`.
+pub fn are_hashed(superblock: &[u8]) -> bool {
+    get64(superblock, FEATURES) & INSENSITIVE != 0
 }
 
 /// The name's field, zero byte and all, of a key that has the form; its count must be the field's length.

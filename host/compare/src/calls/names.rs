@@ -15,16 +15,20 @@ pub fn followed(dirs: &Directories, path: &str) -> Result<(Inode, &'static str),
     let mut at = dirs.v.root()?;
     for part in path.split(['/', '\\']).filter(|p| !p.is_empty()) {
         let entries = dirs.read(at.id)?;
-        let exact = entries.iter().find(|e| e.name == part);
-        let hit = match exact {
-            Some(e) => Some(e),
-            None => by_key(dirs.v.name_rule(), &entries, part)?,
-        };
-        kind = if exact.is_none() || kind == "by key" { "by key" } else { "exact" };
+        let hit = chosen(dirs.v.name_rule(), &entries, part)?;
+        kind = if hit.is_none_or(|e| e.name != part) || kind == "by key" { "by key" } else { "exact" };
         let hit = hit.ok_or_else(|| Error::NotFound(part.into()))?;
         at = dirs.v.inode(hit.file_id)?;
     }
     Ok((at, kind))
+}
+
+/// The first entry of exactly this name, else the first by its key.
+pub fn chosen<'e>(rule: NameRule, entries: &'e [DirEntry], part: &str) -> Result<Option<&'e DirEntry>, Stop> {
+    match entries.iter().find(|e| e.name == part) {
+        Some(e) => Ok(Some(e)),
+        None => by_key(rule, entries, part),
+    }
 }
 
 /// The first entry whose key is the part's; on an insensitive volume no wide name may be met before it.

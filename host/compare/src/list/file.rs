@@ -14,9 +14,7 @@ const OVERFLOW: u64 = 8;
 /// None where the file is longer than any buffer, and read without fault.
 pub fn contents(image: &[u8], c: &Container, v: &Volume, inode: &Inode) -> Result<Option<Vec<u8>>, Stop> {
     let extents = v.file_extents(inode)?;
-    if extents.windows(2).any(|w| !apart(w)) {
-        return Err(Stop::Added(CORRUPT));
-    }
+    in_order(&extents).map_err(Stop::Added)?;
     let size = inode.dstream.map_or(0, |d| d.size);
     if size > LONGEST {
         let told = by_document(image, c.block_size().into(), probe::block_count(c), &extents, size);
@@ -26,6 +24,17 @@ pub fn contents(image: &[u8], c: &Container, v: &Volume, inode: &Inode) -> Resul
     let n = v.read_at(inode, 0, &mut bytes)?;
     bytes.truncate(n);
     Ok(Some(bytes))
+}
+
+/// None may start before its predecessor's end.
+fn in_order(extents: &[Extent]) -> Result<(), u64> {
+    extents.windows(2).all(apart).then_some(()).ok_or(CORRUPT)
+}
+
+/// Whether a file of `size` bytes in these extents is read without fault.
+pub fn whole(image: &[u8], bs: u64, count: u64, extents: &[Extent], size: u64) -> Result<(), u64> {
+    in_order(extents)?;
+    by_document(image, bs, count, extents, size)
 }
 
 /// Whether the second of two extents starts neither before the first nor before the first's end.

@@ -33,8 +33,8 @@ pub fn number(b: &[u8], at: usize, n: usize) -> Option<u64> {
 #[derive(Clone, Copy)]
 pub struct Disk<'a> {
     image: &'a [u8],
-    block_size: usize,
-    blocks: u64,
+    pub block_size: usize,
+    pub blocks: u64,
 }
 
 impl<'a> Disk<'a> {
