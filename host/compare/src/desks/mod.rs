@@ -6,6 +6,7 @@ pub mod account;
 pub mod by_oracle;
 pub mod course;
 pub mod draw;
+pub mod edges;
 pub mod opening;
 pub mod order;
 #[cfg(feature = "calls")]
@@ -15,6 +16,7 @@ pub mod request;
 pub mod run;
 pub mod tally;
 pub mod trial;
+pub mod variants;
 
 use request::Request;
 

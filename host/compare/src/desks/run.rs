@@ -4,28 +4,21 @@ use std::path::Path;
 use std::sync::Arc;
 
 use sticks::random::Random;
-use sticks::volume::Volume;
-use sticks::{gpt, make, Plan, Stick};
 
 use crate::calls::directory::Rule;
-use crate::calls::run::damaged;
-use crate::checkpoints::spoiled::candidates;
 use crate::desks::account::Account;
+use crate::desks::edges::{self, Images};
 use crate::desks::order::{self, Made};
 use crate::desks::tally::Tally;
 use crate::desks::trial::{asked, read_part, Checked, Mismatch, Trial};
+use crate::desks::variants::{self, Variant};
 use crate::desks::{Counts, Ports};
 use crate::image::Image;
-use crate::opening;
 use crate::opening::run::stick_seed;
 use crate::opening::shrink::shrink;
 
-/// Larger sticks are left out: a call on one takes as long as many on others.
-const LARGEST: usize = 1 << 18;
-/// How often each stick is damaged.
-const DAMAGES: u64 = 4;
-/// Of an image, so many numbers of checkpoints.
-const NUMBERS: usize = 2;
+/// Of the sticks that no seed draws, listings of so many lines are cut at each of them.
+const LINES: usize = 40;
 /// So many of a stick's calls are made in other orders.
 const ORDERED: usize = 24;
 
@@ -48,70 +41,18 @@ pub struct Run {
     made: Vec<Made>,
 }
 
-fn small(random: &mut Random, change: fn(Plan) -> Plan) -> Stick {
-    loop {
-        let stick = make(change(Plan::draw(random.draw())));
-        if stick.image.len() <= LARGEST {
-            return stick;
-        }
-    }
-}
-
-/// A stick and what becomes of it.
-fn variants(stick: Stick, saved: bool, random: &mut Random) -> Vec<Variant> {
-    let seed = random.draw();
-    let mut images: Vec<Vec<u8>> = (1..=DAMAGES).map(|k| damaged(&stick.image, seed, k)).collect();
-    images.push(opening::run::damaged(&stick.image, seed, 1));
-    if saved {
-        images.truncate(1);
-    }
-    images.push(stick.image);
-    let volumes = Arc::new(stick.plan.volumes);
-    let mut variant = |image: Vec<u8>| {
-        let image = if random.chance(1, 8) { gpt::draw(&image, random.draw()).image } else { image };
-        Variant { image: Image::of(image), volumes: Arc::clone(&volumes), saved }
-    };
-    images.into_iter().map(&mut variant).collect()
-}
-
-struct Variant {
-    image: Image,
-    volumes: Arc<Vec<Volume>>,
-    saved: bool,
-}
-
-impl Variant {
-    /// The latest, and of a stick that was saved several times also earlier ones and one that there may not be.
-    fn checkpoints(&self, random: &mut Random) -> Vec<Option<u64>> {
-        let mut numbers: Vec<u64> = candidates(read_part(&self.image)).iter().map(|c| c.xid).collect();
-        random.shuffle(&mut numbers);
-        let near = numbers.first().map_or(7, |n| n ^ 1 << random.below(2));
-        numbers.truncate(if self.saved { NUMBERS } else { 0 });
-        let other = (self.saved || random.chance(1, 8)).then_some(near);
-        [None].into_iter().chain(numbers.into_iter().chain(other).map(Some)).collect()
-    }
-}
-
-/// Whole and damaged, with directory keys about the edges of their forms, and saved several times.
-fn all_variants(random: &mut Random) -> Vec<Variant> {
-    let stick = small(random, |plan| plan);
-    let edges = random.chance(1, 4).then(|| make(stick.plan.at_edges()));
-    let saved = small(random, |plan| plan.saved());
-    let edges = edges.into_iter().filter(|edges| edges.image.len() <= LARGEST);
-    let mut out = variants(stick, false, random);
-    out.extend(edges.flat_map(|edges| variants(edges, false, random).into_iter().rev().take(1)).collect::<Vec<_>>());
-    out.extend(variants(saved, true, random));
-    out
-}
-
 impl Run {
     /// Over `count` sticks; without ports the Rust's count alone is held against the account. Stops at the first
     /// failure.
     pub fn over(seed: u64, count: u64, ports: Option<Ports>) -> Run {
         let mut run = Run::default();
+        run.edges(ports);
         for stick in 0..count {
+            if run.failure.is_some() {
+                return run;
+            }
             let mut random = Random::new(stick_seed(seed, stick));
-            for variant in all_variants(&mut random) {
+            for variant in variants::drawn(&mut random) {
                 run.images += 1;
                 let checked = run.image(&variant, &mut random, ports);
                 if let Err(mismatch) = checked {
@@ -125,6 +66,25 @@ impl Run {
             }
         }
         run
+    }
+
+    /// The sticks that no seed draws.
+    fn edges(&mut self, ports: Option<Ports>) {
+        let Images { whole, spoiled } = edges::images();
+        let images = whole.iter().map(|image| (image, false)).chain(spoiled.iter().map(|image| (image, true)));
+        for (stick, (image, at_fault)) in (0..).zip(images) {
+            let (image, mut random) = (Image::of(image.clone()), Random::new(stick));
+            let requests = edges::requests(at_fault, &mut random);
+            let (counts, tally, made) = (&mut self.counts, &mut self.tally, &mut self.made);
+            let mut trial = Trial { image: &image, checkpoint: None, ports, random, counts, tally, made };
+            let checked = trial.given(requests, if at_fault { 0 } else { LINES });
+            self.images += 1;
+            self.made.clear();
+            if let Err(mismatch) = checked {
+                self.failure = Some(Failure { seed: 0, stick, mismatch, image: image.whole });
+                return;
+            }
+        }
     }
 
     fn image(&mut self, v: &Variant, random: &mut Random, ports: Option<Ports>) -> Checked {

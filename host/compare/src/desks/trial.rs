@@ -100,9 +100,20 @@ impl<'a> Trial<'a> {
                 self.by_rust(&mut by_length, read, &d)?;
                 self.call(&mut account, d)?;
             }
-            self.listing(&mut account, volume)?;
+            self.listing(&mut account, volume, LINES)?;
         }
         self.object()
+    }
+
+    /// These requests on the first volume, and its listing at so many lines.
+    pub fn given(&mut self, requests: Vec<Drawn>, lines: usize) -> Checked {
+        let mut account = Account::of(read_part(self.image), Rule::Kind);
+        let mut by_length = Account::of(read_part(self.image), Rule::Length);
+        for d in requests {
+            self.by_rust(&mut by_length, self.image, &d)?;
+            self.call(&mut account, d)?;
+        }
+        self.listing(&mut account, 0, lines)
     }
 
     /// The Rust's count of blocks.
@@ -133,14 +144,16 @@ impl<'a> Trial<'a> {
     }
 
     /// Into buffers about the ends of lines.
-    fn listing(&mut self, account: &mut Account, volume: u64) -> Checked {
+    fn listing(&mut self, account: &mut Account, volume: u64, most: usize) -> Checked {
         let request = draw::at(Request::of(what::LIST), self.checkpoint, volume, &mut self.random);
         let course = account.course(&request, LONGEST as u64);
         let mut rooms: Vec<u64> = course.lines.iter().flat_map(|(end, _)| [end - 1, *end]).collect();
-        if rooms.len() > 2 * LINES {
+        if course.lines.len() > most {
             self.random.shuffle(&mut rooms);
             rooms.truncate(2 * SOME_LINES);
         }
+        let end = course.lines.last().map_or(0, |(end, _)| *end);
+        rooms.extend([end, end.saturating_add(1), LONGEST as u64]);
         for room in rooms.into_iter().filter(|room| *room <= LONGEST as u64) {
             let Some(nodes) = course.nodes(room) else { continue };
             let d = Drawn { request: request.clone(), room: room as usize };
@@ -183,14 +196,18 @@ impl<'a> Trial<'a> {
             return self.random.pick(&NO_DESKS);
         }
         let desk = self.random.below(self.counts.len() as u64);
+        let count = &mut self.counts[desk as usize];
         if self.random.chance(1, 5) {
             let short = self.random.pick(&[0, 1, nodes.saturating_sub(1), nodes, nodes + 1]);
-            self.counts[desk as usize] = u64::MAX - short;
+            *count = u64::MAX - short;
             if short < nodes {
                 self.tally.note(SATURATED);
             } else if short == nodes && nodes > 0 {
                 self.tally.note(FILLED);
             }
+        } else if *count > u64::MAX / 2 {
+            // A full count shows nothing of what comes after.
+            *count = self.random.below(1 << 20);
         }
         desk
     }

@@ -6,12 +6,14 @@ use crate::calls::call::Call;
 use crate::calls::directory::{Account, Rule};
 use crate::calls::expected::{self, Answer};
 use crate::checkpoints::spoiled::{self, image_at};
+use crate::desks::request as what;
 use crate::image::Image;
 use crate::list::measure::Measured;
 use crate::list::trace::End;
 use crate::list::walk;
 use crate::opening::answer;
 use crate::opening::outside::outside;
+use crate::recorded::at_desk::AtDesk;
 use crate::words;
 
 const TOO_SHORT: u64 = 6;
@@ -32,6 +34,8 @@ pub enum Asked {
     At(u64, Box<Asked>),
     /// The wrong words of an object, whatever the image.
     WrongWords(Vec<u8>),
+    /// A call by a desk.
+    Desk(Box<AtDesk>),
 }
 
 #[derive(Clone, Debug, PartialEq, Eq)]
@@ -57,6 +61,7 @@ impl Asked {
             Asked::Measure => "measure",
             Asked::Checkpoints => "checkpoints",
             Asked::WrongWords(_) => "wrong_words",
+            Asked::Desk(_) => "desk",
             Asked::At(_, asked) => match asked.name() {
                 "open" => "open_at",
                 "lookup" => "lookup_at",
@@ -75,6 +80,8 @@ impl Asked {
         match self {
             Asked::Checkpoints => bytes / NUMBER,
             Asked::WrongWords(_) => bytes / MEND,
+            Asked::Desk(d) if d.request.what == what::CHECKPOINTS => bytes / NUMBER,
+            Asked::Desk(d) if d.request.what == what::WRONG_WORDS => bytes / MEND,
             _ => bytes,
         }
     }
@@ -82,6 +89,7 @@ impl Asked {
     pub fn is_list(&self) -> bool {
         match self {
             Asked::List => true,
+            Asked::Desk(d) => d.request.what == what::LIST,
             Asked::At(_, asked) => asked.is_list(),
             _ => false,
         }
@@ -93,6 +101,7 @@ impl fmt::Display for Asked {
         match self {
             Asked::Call(call) => call.fmt(f),
             Asked::At(xid, asked) => write!(f, "{asked} at checkpoint {xid}"),
+            Asked::Desk(d) => write!(f, "desk {} from {}: {}", d.desk, d.from, d.request),
             other => f.write_str(other.name()),
         }
     }
@@ -105,7 +114,7 @@ impl fmt::Display for Question {
     }
 }
 
-fn within(bytes: Vec<u8>, room: usize) -> Told {
+pub(super) fn within(bytes: Vec<u8>, room: usize) -> Told {
     if bytes.len() > room {
         Told::Refused(TOO_SHORT)
     } else {
@@ -131,13 +140,14 @@ pub fn told_by(rule: Rule, image: &Image, q: &Question) -> Option<Told> {
         Asked::Checkpoints => numbers(image, q.room),
         Asked::WrongWords(object) => Some(within(words::bytes(&words::account::mends(object)), q.room)),
         Asked::At(xid, asked) => told_by(rule, &image_at(image, *xid, 1), &Question { asked: (**asked).clone(), ..*q }),
+        Asked::Desk(d) => d.told(rule, image, q),
     }
 }
 
 /// Of the directories that the call reads.
 pub fn account(rule: Rule, image: &Image, q: &Question) -> Account {
     match &q.asked {
-        Asked::Open | Asked::Checkpoints | Asked::WrongWords(_) => Account::None,
+        Asked::Open | Asked::Checkpoints | Asked::WrongWords(_) | Asked::Desk(_) => Account::None,
         Asked::Call(call) => expected::told_by(rule, image, q.volume, call).account,
         Asked::List | Asked::Measure => walk::told_by(rule, image, q.volume).account,
         Asked::At(xid, asked) => account(rule, &image_at(image, *xid, 1), &Question { asked: (**asked).clone(), ..*q }),

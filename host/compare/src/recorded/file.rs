@@ -3,6 +3,8 @@
 //! A record is: op and refusal (1 byte each), volume, a, b (8 each), the buffer's length, the count that is answered, the
 //! CRC-32C register of all the buffer after the call, the input's length (4 each), the input: a path, an object, a mark,
 //! or a name's or a record's kind and a transaction number (8 each); a transaction number is a where a says nothing else.
+//! The input of a desk's call is the desk, what is asked for, whether it is at a number, that number, c, what each count
+//! is before the call, the eight counts after it (8 each), and a path or a mark.
 //! Numbers are little-endian. An op of 0 ends the file.
 
 use sticks::sums::crc32c;
@@ -10,6 +12,7 @@ use sticks::sums::crc32c;
 use crate::calls::call::Call;
 use crate::calls::check::pattern;
 use crate::recorded::asked::{Asked, Question, Told};
+use crate::recorded::at_desk::AtDesk;
 
 pub const END: u8 = 0;
 pub const TITLE: u8 = 1;
@@ -109,8 +112,15 @@ fn coded(asked: &Asked) -> Option<(u8, u64, u64, Vec<u8>)> {
         Asked::Measure => (18, 0, 0, none),
         Asked::Call(Call::Mark { id, kind, place }) => (20, *id, *place, eight(*kind)),
         Asked::Call(Call::Marked { mark }) => (22, 0, 0, mark.clone()),
+        Asked::Desk(d) => (24, d.request.a, d.request.b, desk_input(d)),
         Asked::Call(Call::Entries { .. } | Call::XattrBytes { .. }) => return None,
     })
+}
+
+fn desk_input(d: &AtDesk) -> Vec<u8> {
+    let r = &d.request;
+    let numbers = [d.desk, r.what, r.numbered, r.xid, r.c, d.from].into_iter().chain(d.after);
+    numbers.flat_map(u64::to_le_bytes).chain(r.path.iter().copied()).collect()
 }
 
 /// The same at a checkpoint.

@@ -1,8 +1,9 @@
 //! A file of calls on sticks with their answers, for replay without any Rust (`crates/cases`): document 01's cases, a
-//! sample of calls on drawn sticks, and the cases of requests 02, 03, 04, 13, 08, 09 and 10. An answer is the oracle's, or
+//! sample of calls on drawn sticks, and the cases of requests 02, 03, 04, 13, 08, 09, 10 and 06. An answer is the oracle's, or
 //! the papers' where the oracle can't tell; never the port's.
 
 pub mod asked;
+pub mod at_desk;
 pub mod drawn;
 pub mod file;
 pub mod read;
@@ -22,5 +23,6 @@ pub fn recorded(seed: u64) -> Result<Vec<u8>, String> {
     stated::write(stated::of_totals(), &mut file)?;
     stated::write(stated::of_measures(), &mut file)?;
     stated::write(stated::of_marks(), &mut file)?;
+    stated::write(stated::of_desks(), &mut file)?;
     Ok(file.finish())
 }

@@ -5,7 +5,9 @@ use std::sync::Arc;
 use sticks::sums::crc32c;
 
 use crate::calls::call::Call;
+use crate::desks::request::Request;
 use crate::recorded::asked::{Asked, Question, Told};
+use crate::recorded::at_desk::AtDesk;
 use crate::recorded::file::{answer, END, IMAGE, LONGEST, TITLE};
 
 pub struct Recorded {
@@ -57,6 +59,18 @@ fn eight(input: &[u8]) -> Result<u64, String> {
 
 fn kind(n: u64) -> Result<u8, String> {
     n.try_into().map_err(|_| format!("a kind {n}"))
+}
+
+/// A call by a desk on a volume, with two of its numbers.
+fn at_desk(volume: u64, a: u64, b: u64, mut input: &[u8]) -> Result<Asked, String> {
+    let mut next = || number(&mut input, 8);
+    let [desk, what, numbered, xid, c, from] = [next()?, next()?, next()?, next()?, next()?, next()?];
+    let mut after = [0; 8];
+    for count in &mut after {
+        *count = next()?;
+    }
+    let request = Request { what, numbered, xid, volume, a, b, c, path: input.to_vec() };
+    Ok(Asked::Desk(Box::new(AtDesk { desk, request, from, after })))
 }
 
 fn asked(op: u8, a: u64, b: u64, room: usize, input: &[u8]) -> Result<Asked, String> {
@@ -113,7 +127,11 @@ pub fn decode(mut rest: &[u8]) -> Result<Vec<Recorded>, String> {
                 image = Arc::new(buffer.get(..a as usize).ok_or("an image too long")?.to_vec());
             }
             _ => {
-                let question = Question { volume, asked: asked(op, a, b, room as usize, input)?, room: room as usize };
+                let asked = match op {
+                    24 => at_desk(volume, a, b, input)?,
+                    _ => asked(op, a, b, room as usize, input)?,
+                };
+                let question = Question { volume, asked, room: room as usize };
                 let answer = (refusal, count as u32, sum as u32);
                 out.push(Recorded { image: Arc::clone(&image), question, answer });
             }

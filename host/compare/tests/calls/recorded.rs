@@ -17,7 +17,7 @@ fn differ(records: &[Recorded], m: Mistake, slip: Slip) -> usize {
     let agrees = |r: &&Recorded| {
         let (q, mut out) = (&r.question, pattern(r.question.room));
         let got = match &q.asked {
-            Asked::Open | Asked::Checkpoints | Asked::At(..) | Asked::WrongWords(_) => return true,
+            Asked::Open | Asked::Checkpoints | Asked::At(..) | Asked::WrongWords(_) | Asked::Desk(_) => return true,
             Asked::Call(Call::Mark { .. } | Call::Marked { .. }) => return true,
             Asked::Call(call) => answer(&last, &r.image, q.volume, call, &mut out, m),
             Asked::List => list::answer(&r.image, q.volume, &mut out, slip),

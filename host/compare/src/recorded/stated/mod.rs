@@ -1,18 +1,21 @@
 //! Document 01's cases and those of partition tables, patched names, directory keys, checkpoints, wrong words, a
-//! listing's totals and its measure, and bookmarks, each with what the papers say of it, and small sticks that show them.
+//! listing's totals and its measure, bookmarks and desks, each with what the papers say of it, and small sticks that show
+//! them.
 
 mod checkpoints;
+mod desks;
 mod keys;
 mod listing;
 mod marked;
 mod marks;
 mod measure;
 mod names;
+mod nodes;
 mod opening;
 mod paths;
 mod reads;
 mod records;
-mod stick;
+pub mod stick;
 mod tables;
 mod totals;
 mod trees;
@@ -20,8 +23,11 @@ mod volumes;
 mod words;
 
 use crate::calls::call::Call;
+use crate::desks::add;
+use crate::desks::request::Request;
 use crate::image::Image;
 use crate::recorded::asked::{told, Asked, Question, Told};
+use crate::recorded::at_desk::AtDesk;
 use crate::recorded::file::File;
 
 /// What document 01 says.
@@ -83,6 +89,18 @@ impl Stated {
         Stated::new(Asked::WrongWords(object), ROOM, said)
     }
 
+    /// From a dock whose counts are all `from`; the call goes through so many nodes.
+    pub fn desk(desk: u64, request: Request, from: u64, nodes: u64, said: Said) -> Stated {
+        let (volume, mut after) = (request.volume, [from; 8]);
+        add(&mut after, desk, nodes);
+        let stated = Stated::new(Asked::Desk(Box::new(AtDesk { desk, request, from, after })), ROOM, said);
+        stated.of_volume(volume)
+    }
+
+    pub fn refused(self, number: u64) -> Stated {
+        Stated { said: Said::Refused(number), ..self }
+    }
+
     /// The same at the checkpoint of a number.
     pub fn at(mut self, xid: u64) -> Stated {
         self.question.asked = Asked::At(xid, Box::new(self.question.asked));
@@ -99,8 +117,18 @@ impl Stated {
         self
     }
 
+    /// By the account, a desk's counts must come to what is stated.
+    fn counted(&self, image: &Image) -> Result<(), String> {
+        let Asked::Desk(d) = &self.question.asked else { return Ok(()) };
+        match d.counts(image, self.question.room) {
+            Some(counts) if counts == d.after => Ok(()),
+            other => Err(format!("{}: {:?} are stated, {other:?} counted", self.question, d.after)),
+        }
+    }
+
     /// The answer to record. The oracle must say what the paper says, where it says anything.
     fn answer(self, image: &Image) -> Result<(Question, Told), String> {
+        self.counted(image)?;
         let by_oracle = told(image, &self.question);
         let said = match (self.said, &by_oracle) {
             (Said::Refused(n), _) => Told::Refused(n),
@@ -165,6 +193,11 @@ pub fn of_measures() -> Vec<Group> {
 /// Those of request 10.
 pub fn of_marks() -> Vec<Group> {
     [marks::groups(), marked::groups()].into_iter().flatten().collect()
+}
+
+/// Those of request 06.
+pub fn of_desks() -> Vec<Group> {
+    [nodes::groups(), desks::groups()].into_iter().flatten().collect()
 }
 
 /// An error tells each case that the oracle answers otherwise.
