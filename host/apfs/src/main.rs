@@ -16,7 +16,8 @@
 //!
 //! An image is of a stick with a GUID partition table, or of an APFS partition alone. `--volume N` names another volume
 //! than the first, which is 0, and `--checkpoint N` another checkpoint than the latest, so that the stick is read as it
-//! was then; `--block-size N` says how long the block of `words` is, which is else 4,096. Refusals go to standard error,
+//! was then; `--block-size N` says how long the block of `words` is, which is else 4,096. `--nodes` says on standard error
+//! how many nodes of the stick's trees the calls went through, those that were refused too. Refusals go to standard error,
 //! and the exit status is then 1; it is 2 where the arguments are wrong. A listing is measured first, and has as much
 //! room as it needs; sparse files may ask for more than 4,294,967,295 bytes, which is refusal 14.
 //!
@@ -25,13 +26,15 @@
 
 mod tool;
 
+use std::cell::RefCell;
 use std::ffi::OsString;
 use std::io::{stdout, BufWriter, ErrorKind, Write};
 use std::process::exit;
 use std::str::FromStr;
 
 use apfs::calls::Which;
-use tool::ask::Asked;
+use apfs::desks::Dock;
+use tool::ask::{Asked, DESK};
 use tool::failure::Failure;
 use tool::marks::Record;
 use tool::{cat, checkpoints, list, ls, marks, measure, sample, stat, usage, words, xattr};
@@ -44,6 +47,7 @@ struct Arguments {
     checkpoint: Option<u64>,
     volume: Option<u64>,
     block_size: Option<u64>,
+    nodes: bool,
     words: Vec<OsString>,
 }
 
@@ -55,6 +59,7 @@ fn arguments() -> Option<Arguments> {
             Some("--checkpoint") => out.checkpoint = Some(number(args.next())?),
             Some("--block-size") => out.block_size = Some(number(args.next())?),
             Some("--volume") => out.volume = Some(number(args.next())?),
+            Some("--nodes") => out.nodes = true,
             Some(option) if option.starts_with("--") && option != "--help" => return None,
             _ => out.words.push(word),
         }
@@ -76,9 +81,10 @@ fn bookmark(word: &OsString) -> Result<Vec<u8>, Failure> {
     marks::read(word).ok_or_else(|| Failure::Usage(usage::of("marked")))
 }
 
-fn run(a: &Arguments, out: &mut dyn Write) -> Result<(), Failure> {
-    let asked = |image: &OsString| Asked::of(image, Which { checkpoint: a.checkpoint, volume: a.volume.unwrap_or(0) });
-    let at_latest = a.checkpoint.is_none() && a.volume.is_none();
+fn run(a: &Arguments, dock: &RefCell<Dock>, out: &mut dyn Write) -> Result<(), Failure> {
+    let which = Which { checkpoint: a.checkpoint, volume: a.volume.unwrap_or(0) };
+    let asked = |image: &OsString| Asked::of(image, which, dock);
+    let at_latest = a.checkpoint.is_none() && a.volume.is_none() && !a.nodes;
     let plain = at_latest && a.block_size.is_none();
     let (name, words) = a.words.split_first().ok_or_else(|| Failure::Usage(usage::all()))?;
     match (name.to_str().unwrap_or_default(), words) {
@@ -113,9 +119,12 @@ fn run(a: &Arguments, out: &mut dyn Write) -> Result<(), Failure> {
 }
 
 fn written(a: &Arguments) -> Result<(), Failure> {
-    let mut out = BufWriter::new(stdout().lock());
-    run(a, &mut out)?;
-    Ok(out.flush()?)
+    let (mut out, dock) = (BufWriter::new(stdout().lock()), RefCell::new(Dock::new()));
+    let done = run(a, &dock, &mut out).and_then(|()| Ok(out.flush()?));
+    if a.nodes && !matches!(done, Err(Failure::Usage(_))) {
+        eprintln!("{} nodes", dock.borrow().counts()[DESK as usize]);
+    }
+    done
 }
 
 fn main() {

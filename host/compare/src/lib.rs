@@ -4,7 +4,7 @@
 //! ([`checkpoints`]), and of two sticks at a time ([`pairs`]). The Rust reads no table: it is given the part of an
 //! [`image`] that the table leads to. Its object maps are held against a walk over all their entries ([`maps`]),
 //! and the port's list of wrong words against its test of checksums ([`words`]); bookmarks lead to the records that its
-//! scan gives ([`marks`]).
+//! scan gives ([`marks`]). Node counts of desks are held against a walk of the host's own ([`desks`]).
 //!
 //! The comparison needs the oracle; without the published sources only [`port`], [`leaf`] and the
 //! file format of [`record`] are built.

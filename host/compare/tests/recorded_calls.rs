@@ -5,7 +5,7 @@
 use std::collections::BTreeSet;
 
 use compare::image::Image;
-use compare::recorded::asked::told;
+use compare::recorded::asked::{told, Asked};
 use compare::recorded::file::File;
 use compare::recorded::read::{decode, of_cases, Recorded};
 
@@ -15,7 +15,14 @@ fn recorded() -> Vec<Recorded> {
 
 #[test]
 fn every_answer_is_the_oracles() {
-    let differ = |r: &Recorded| told(&Image::of(r.image.clone()), &r.question).is_some_and(|t| !r.tells(&t));
+    let counts = |image: &Image, r: &Recorded| match &r.question.asked {
+        Asked::Desk(d) => d.counts(image, r.question.room) == Some(d.after),
+        _ => true,
+    };
+    let differ = |r: &Recorded| {
+        let image = Image::of(r.image.clone());
+        told(&image, &r.question).is_some_and(|t| !r.tells(&t)) || !counts(&image, r)
+    };
     let wrong: Vec<String> = recorded().iter().filter(|r| differ(r)).map(|r| r.question.to_string()).collect();
     assert_eq!(wrong, Vec::<String>::new());
 }
@@ -60,7 +67,6 @@ fn the_port_answers_of_bookmarks_as_is_recorded() {
     use compare::calls::check::pattern;
     use compare::calls::port_of;
     use compare::port::calls::Which;
-    use compare::recorded::asked::Asked;
 
     let agrees = |r: &Recorded| {
         let (checkpoint, asked) = match &r.question.asked {

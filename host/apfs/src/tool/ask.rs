@@ -1,8 +1,10 @@
 //! The port's calls on a volume, at one checkpoint.
 
+use std::cell::{RefCell, RefMut};
 use std::ffi::OsStr;
 
-use apfs::calls::{self, Which};
+use apfs::calls::Which;
+use apfs::desks::Dock;
 use apfs::{marks, refusal};
 
 use crate::tool::answer::{bytes, bytes_from, count, parsed, zeros, LONGEST};
@@ -27,8 +29,13 @@ const ENTRIES: usize = 1 << 20;
 /// An attribute has so much room at most.
 const ATTRIBUTE: usize = 1 << 30;
 
-pub struct Asked {
+/// All calls are made at one desk.
+pub const DESK: u64 = 0;
+
+pub struct Asked<'d> {
     pub stick: Stick,
+    /// Counts the nodes that the calls go through.
+    dock: &'d RefCell<Dock>,
     /// The image file's name, and the checkpoint if one was asked for, for messages.
     pub place: String,
     checkpoint: Option<u64>,
@@ -36,12 +43,16 @@ pub struct Asked {
     pub container: Container,
 }
 
-impl Asked {
+impl Asked<'_> {
     /// Opens the container; the volume is opened when something of it is asked for.
-    pub fn of(file: &OsStr, which: Which) -> Result<Asked, Failure> {
+    pub fn of<'d>(file: &OsStr, which: Which, dock: &'d RefCell<Dock>) -> Result<Asked<'d>, Failure> {
         let (Which { checkpoint, volume }, stick) = (which, Stick::of(file)?);
-        let container = stick.open(checkpoint)?;
-        Ok(Asked { place: at(&stick.file, checkpoint), stick, checkpoint, volume, container })
+        let container = stick.open(checkpoint, dock)?;
+        Ok(Asked { place: at(&stick.file, checkpoint), stick, dock, checkpoint, volume, container })
+    }
+
+    fn dock(&self) -> RefMut<'_, Dock> {
+        self.dock.borrow_mut()
     }
 
     fn image(&self) -> &[u8] {
@@ -62,7 +73,7 @@ impl Asked {
 
     /// Whether a volume opens: a path that is not UTF-8 is refused after that, and before anything in the volume is read.
     pub fn opens(&self, volume: u64) -> Result<(), u64> {
-        match count(calls::lookup(self.image(), self.which(volume), b"\xff", &mut [])) {
+        match count(self.dock().lookup(DESK, self.image(), self.which(volume), b"\xff", &mut [])) {
             Err(n) if n != PATH_NOT_UTF8 => Err(n),
             _ => Ok(()),
         }
@@ -80,7 +91,7 @@ impl Asked {
     pub fn lookup(&self, path: &[u8]) -> Result<Node, Failure> {
         self.open_volume()?;
         let what = shown_path(path);
-        let line = bytes(LONGEST, &|out| calls::lookup(self.image(), self.which(self.volume), path, out));
+        let line = bytes(LONGEST, &|out| self.dock().lookup(DESK, self.image(), self.which(self.volume), path, out));
         let line = line.map_err(|n| match n {
             NOT_FOUND => Failure::told(
                 format!("{}: {what}", self.place),
@@ -95,14 +106,14 @@ impl Asked {
 
     /// The directory's entries from `place` on, as many as a buffer holds; none past the last.
     pub fn entries(&self, what: &str, id: u64, place: u64) -> Result<Vec<Entry>, Failure> {
-        let call = |out: &mut [u8]| calls::entries(self.image(), self.which(self.volume), id, place, out);
+        let call = |out: &mut [u8]| self.dock().entries(DESK, self.image(), self.which(self.volume), id, place, out);
         let text = bytes_from(ENTRIES, LONGEST, &call).map_err(|n| self.refused(what, n))?;
         text.split_inclusive(|&b| b == b'\n').map(|line| self.line(what, line, Entry::parse)).collect()
     }
 
     /// The attribute at `place`, or none past the last; or the refusal's number.
     pub fn attribute(&self, id: u64, place: u64) -> Result<Result<Option<Attribute>, u64>, Failure> {
-        match bytes(ATTRIBUTE, &|out| calls::xattr(self.image(), self.which(self.volume), id, place, out)) {
+        match bytes(ATTRIBUTE, &|out| self.dock().xattr(DESK, self.image(), self.which(self.volume), id, place, out)) {
             Err(n) => Ok(Err(n)),
             Ok(line) if line.is_empty() => Ok(Ok(None)),
             Ok(line) => {
@@ -114,12 +125,12 @@ impl Asked {
 
     /// The bytes of the attribute at `place`, or the refusal's number.
     pub fn attribute_bytes(&self, id: u64, place: u64) -> Result<Vec<u8>, u64> {
-        bytes(ATTRIBUTE, &|out| calls::xattr_bytes(self.image(), self.which(self.volume), id, place, out))
+        bytes(ATTRIBUTE, &|out| self.dock().xattr_bytes(DESK, self.image(), self.which(self.volume), id, place, out))
     }
 
     /// How many bytes of the file came into `out`.
     pub fn read(&self, id: u64, offset: u64, out: &mut [u8]) -> Result<usize, u64> {
-        count(calls::read(self.image(), self.which(self.volume), id, offset, out))
+        count(self.dock().read(DESK, self.image(), self.which(self.volume), id, offset, out))
     }
 
     /// A file's size, or the refusal of a read.
@@ -129,7 +140,7 @@ impl Asked {
 
     /// A symbolic link's text, or the refusal's number.
     pub fn link(&self, id: u64) -> Result<String, u64> {
-        let text = bytes(LONGEST, &|out| calls::link(self.image(), self.which(self.volume), id, out))?;
+        let text = bytes(LONGEST, &|out| self.dock().link(DESK, self.image(), self.which(self.volume), id, out))?;
         Ok(String::from_utf8_lossy(&text).into_owned())
     }
 
@@ -141,7 +152,7 @@ impl Asked {
         }
         let what = "damaged parts of a name";
         let (kind, id, place) = name.numbers();
-        let call = |out: &mut [u8]| calls::replaced(self.image(), self.which(volume), kind, id, place, out);
+        let call = |out: &mut [u8]| self.dock().replaced(DESK, self.image(), self.which(volume), kind, id, place, out);
         let line = bytes(LONGEST, &call).map_err(|n| self.refused(what, n))?;
         Ok(match self.line(what, &line, damaged)? {
             0 => String::new(),
@@ -152,7 +163,7 @@ impl Asked {
     /// A volume's label and rule, or the refusal's number. No call but the listing tells them; one of over
     /// [`LONGEST`] bytes is not waited for.
     pub fn volume(&self, volume: u64) -> Result<Result<Volume, u64>, Failure> {
-        match bytes(LONGEST, &|out| calls::list(self.image(), self.which(volume), out)) {
+        match bytes(LONGEST, &|out| self.dock().list(DESK, self.image(), self.which(volume), out)) {
             Err(n) => Ok(Err(n)),
             Ok(text) => {
                 let first = text.split_inclusive(|&b| b == b'\n').next().unwrap_or_default();
@@ -165,7 +176,7 @@ impl Asked {
     pub fn measure(&self) -> Result<Measure, Failure> {
         self.open_volume()?;
         let what = format!("listing of volume {}", self.volume);
-        let line = bytes(LONGEST, &|out| calls::measure(self.image(), self.which(self.volume), out));
+        let line = bytes(LONGEST, &|out| self.dock().measure(DESK, self.image(), self.which(self.volume), out));
         self.line(&what, &line.map_err(|n| self.refused(&what, n))?, Measure::parse)
     }
 
@@ -177,7 +188,7 @@ impl Asked {
             let advice = "free some, or read the volume file by file";
             Failure::Other(format!("{}: {what}: there is no memory for its {length} bytes; {advice}", self.place))
         })?;
-        let n = count(calls::list(self.image(), self.which(self.volume), &mut text));
+        let n = count(self.dock().list(DESK, self.image(), self.which(self.volume), &mut text));
         text.truncate(n.map_err(|n| self.refused(&what, n))?);
         Ok(text)
     }
@@ -186,7 +197,8 @@ impl Asked {
     pub fn bookmark(&self, r: &Record) -> Result<Vec<u8>, Failure> {
         self.open_volume()?;
         let what = format!("record {} of kind {} of id {}", r.place, r.kind, r.id);
-        let call = |out: &mut [u8]| marks::mark(self.image(), self.which(self.volume), r.id, r.kind, r.place, out);
+        let call =
+            |out: &mut [u8]| self.dock().mark(DESK, self.image(), self.which(self.volume), r.id, r.kind, r.place, out);
         let mark = bytes(marks::LENGTH, &call).map_err(|n| self.refused(&what, n))?;
         if mark.is_empty() {
             let advice = "records are counted from 0, those without a value left out";
@@ -199,7 +211,7 @@ impl Asked {
     pub fn bookmarked(&self, mark: &[u8]) -> Result<Vec<u8>, Failure> {
         const WORDS: &str = "its parts pass its block, or its block passes the stick";
         let what = format!("{}: bookmark", self.place);
-        let line = bytes(LONGEST, &|out| marks::marked(self.image(), self.checkpoint, mark, out));
+        let line = bytes(LONGEST, &|out| self.dock().marked(DESK, self.image(), self.checkpoint, mark, out));
         line.map_err(|n| match n {
             PASSES => Failure::told(what, n, WORDS, "give one that was made of this stick"),
             n => Failure::refused_at(self.checkpoint, what, n),

@@ -1,10 +1,13 @@
 //! A stick: the part of it that a container is in, the container opened, and its checkpoints.
 
+use std::cell::RefCell;
 use std::ffi::OsStr;
 
+use apfs::desks::Dock;
 use apfs::refusal;
 
 use crate::tool::answer::{bytes, parsed, LONGEST};
+use crate::tool::ask::DESK;
 use crate::tool::container::Container;
 use crate::tool::failure::Failure;
 use crate::tool::image;
@@ -47,11 +50,8 @@ impl Stick {
     }
 
     /// The stick is given whole, as only then is a part without a container told from an image without a table.
-    pub fn open(&self, checkpoint: Option<u64>) -> Result<Container, Failure> {
-        let call = |out: &mut [u8]| match checkpoint {
-            None => apfs::open(&self.image, out),
-            Some(xid) => apfs::open_at(&self.image, xid, out),
-        };
+    pub fn open(&self, checkpoint: Option<u64>, dock: &RefCell<Dock>) -> Result<Container, Failure> {
+        let call = |out: &mut [u8]| dock.borrow_mut().open(DESK, &self.image, checkpoint, out);
         let line = bytes(LONGEST, &call).map_err(|n| self.refused(n, checkpoint))?;
         parsed(&self.place(), &line, Container::parse)
     }

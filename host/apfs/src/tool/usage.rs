@@ -19,8 +19,8 @@ pub fn of(name: &str) -> String {
     match COMMANDS.iter().find(|c| c.0 == name) {
         Some((name @ ("sample" | "checkpoints"), words, _)) => format!("usage: apfs {name} {words}"),
         Some(("words", words, _)) => format!("usage: apfs words {words} [--block-size N]"),
-        Some(("marked", words, _)) => format!("usage: apfs marked {words} [--checkpoint N]"),
-        Some((name, words, _)) => format!("usage: apfs {name} {words} [--volume N] [--checkpoint N]"),
+        Some(("marked", words, _)) => format!("usage: apfs marked {words} [--checkpoint N] [--nodes]"),
+        Some((name, words, _)) => format!("usage: apfs {name} {words} [--volume N] [--checkpoint N] [--nodes]"),
         None => all(),
     }
 }
@@ -31,6 +31,7 @@ pub fn all() -> String {
     let end = "IMAGE is of a stick with a GUID partition table, or of an APFS partition alone.\n\
                Each but sample, checkpoints, words and marked takes --volume N, of the volumes that `stat IMAGE` shows; else it is 0.\n\
                They and marked take --checkpoint N, of those that `checkpoints IMAGE` shows; else it is the latest.\n\
+               They and marked take --nodes: how many nodes the calls went through is told on standard error.\n\
                words takes --block-size N; else it is 4096.";
     format!("usage: apfs COMMAND ..\n{}\n{end}", lines.join("\n"))
 }

@@ -120,7 +120,7 @@ fn paths_that_lead_nowhere_are_told() {
 #[test]
 fn wrong_arguments_are_told() {
     let image = Image::of("arguments", b"");
-    let options = "[--volume N] [--checkpoint N]";
+    let options = "[--volume N] [--checkpoint N] [--nodes]";
     assert_eq!(image.usage(&["cat"], &[]), format!("usage: apfs cat IMAGE PATH {options}\n"));
     assert_eq!(image.usage(&["list"], &["path"]), format!("usage: apfs list IMAGE {options}\n"));
     assert_eq!(image.usage(&["measure"], &["path"]), format!("usage: apfs measure IMAGE {options}\n"));

@@ -8,6 +8,7 @@ mod errors;
 mod image;
 mod marks;
 mod measure;
+mod nodes;
 mod partitioned;
 mod sample;
 mod totals;

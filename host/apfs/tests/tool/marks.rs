@@ -140,13 +140,13 @@ fn a_bookmark_is_of_a_volume() {
 #[test]
 fn what_bookmarks_do_not_take_is_told() {
     let image = Image::planned("marked-usage", Plan::sample());
-    let usage = "usage: apfs mark IMAGE ID KIND PLACE [--volume N] [--checkpoint N]\n";
+    let usage = "usage: apfs mark IMAGE ID KIND PLACE [--volume N] [--checkpoint N] [--nodes]\n";
     let past = "18446744073709551616";
     for words in [&[][..], &["2", "3"], &["2", "3", "0", "0"], &["2", "256", "0"], &["x", "3", "0"], &["2", "3", past]]
     {
         assert_eq!(image.usage(&["mark"], words), usage, "{words:?}");
     }
-    let usage = "usage: apfs marked IMAGE MARK [--checkpoint N]\n";
+    let usage = "usage: apfs marked IMAGE MARK [--checkpoint N] [--nodes]\n";
     let good = "0".repeat(48);
     for word in ["", "00", &good[1..], &format!("{good}0"), &"x".repeat(48), &format!("0x{}", &good[2..])] {
         assert_eq!(image.usage(&["marked"], &[word]), usage, "{word}");

@@ -73,6 +73,6 @@ fn what_words_does_not_take_is_told() {
     }
     assert_eq!(
         stick.usage(&["--block-size", "4096", "ls"], &[]),
-        "usage: apfs ls IMAGE [PATH] [--volume N] [--checkpoint N]\n"
+        "usage: apfs ls IMAGE [PATH] [--volume N] [--checkpoint N] [--nodes]\n"
     );
 }

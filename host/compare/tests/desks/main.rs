@@ -8,11 +8,20 @@ mod stand;
 
 use std::hash::{DefaultHasher, Hash, Hasher};
 
-use compare::desks::request::Request;
+use std::path::Path;
+use std::sync::Arc;
+
+use compare::calls::directory::Rule;
+use compare::desks::account::Account;
+use compare::desks::by_oracle::{distinct, reads};
+use compare::desks::request::{Request, LIST, LOOKUP, OPEN};
 use compare::desks::run::Run;
-use compare::desks::{Plain, Ports};
+use compare::desks::{add, Plain, Ports};
+use compare::recorded::stated::stick::empty;
 use stand::{Slip, Stand, ALL};
 
+/// Sticks on which both counts agree, and sticks that every slip is found by.
+const AGREED: u64 = 30;
 const ENOUGH: u64 = 8;
 
 /// The oracle's overflows are caught and counted; their messages need not be printed.
@@ -51,11 +60,54 @@ fn failure(run: &Run) -> Option<(u64, String, String)> {
 
 #[test]
 fn no_slip_none_found() {
-    assert_eq!(failure(&run(Slip::None, &any_answer, ENOUGH)), None);
+    let run = run(Slip::None, &any_answer, AGREED);
+    assert_eq!(failure(&run), None);
+    assert!(run.tally.calls() > 20_000 && run.tally.blocks > 20_000, "{}", run.tally);
 }
 
 #[test]
 fn every_slip_is_found() {
     let missed: Vec<&Slip> = ALL.iter().filter(|s| failure(&run(**s, &any_answer, ENOUGH)).is_none()).collect();
     assert_eq!(missed, [&Slip::None; 0]);
+}
+
+#[test]
+fn a_failure_is_told_with_a_smaller_image() {
+    silence_overflows();
+    let folder = Path::new(env!("CARGO_TARGET_TMPDIR"));
+    let stand = Stand::with(Slip::TreeRootNotLoaded, &any_answer);
+    let desk =
+        |counts: &mut _, desk: u64, r: &Request, image: &[u8], out: &mut [u8]| stand.desk(counts, desk, r, image, out);
+    let ports = Some(Ports { desk: &desk, plain: &any_answer });
+    let run = Run::over(5, 0, ports);
+    let f = run.failure.as_ref().expect("a failure");
+    let file = folder.join(format!("desks-{}-{}.img", f.seed, f.stick));
+    assert!(run.report_failure(ports, folder));
+    let small = std::fs::read(&file).expect("an image");
+    assert!(small.len() <= f.image.len() && small != **f.image);
+    std::fs::remove_file(file).expect("no more image");
+}
+
+/// The container's map, the volume's and its tree are a node each.
+#[test]
+fn the_smallest_volume_is_counted_by_hand() {
+    let part = Arc::new(empty());
+    let mut account = Account::of(&part, Rule::Kind);
+    for (what, nodes, blocks) in [(OPEN, 1, 1), (LOOKUP, 6, 3), (LIST, 9, 3)] {
+        let path = account.path(&Request::of(what), 1000).expect("few forms");
+        assert_eq!((path.len(), distinct(&path)), (nodes, blocks), "{what}");
+    }
+    let lookup = account.path(&Request::of(LOOKUP), 0).expect("few forms");
+    let [container, volume, tree] = [lookup[0], lookup[2], lookup[4]];
+    assert_eq!(lookup, [container, container, volume, volume, tree, tree]);
+    assert_eq!([OPEN, LOOKUP].map(|what| reads(&part, &Request::of(what))), [Some(1), Some(3)]);
+}
+
+#[test]
+fn a_count_goes_up_to_the_end_and_stays() {
+    let mut counts = [0, u64::MAX - 2, u64::MAX, 0, 0, 0, 0, 5];
+    for (desk, nodes) in [(0, 3), (1, 2), (2, 1), (7, u64::MAX), (8, 4), (u64::MAX, 4)] {
+        add(&mut counts, desk, nodes);
+    }
+    assert_eq!(counts, [3, u64::MAX, u64::MAX, 0, 0, 0, 0, u64::MAX]);
 }

@@ -98,3 +98,17 @@ fn every_slip_is_found() {
     let missed: Vec<&Slip> = ALL.iter().filter(|s| differ(&records, &answers, **s) == 0).collect();
     assert_eq!(missed, [&Slip::None; 0]);
 }
+
+#[cfg(feature = "calls")]
+#[test]
+fn the_port_counts_as_is_recorded() {
+    let desk = compare::desks::port::PORTS.desk;
+    let agrees = |r: &Recorded| {
+        let (d, mut out) = (at_desk(r), pattern(r.question.room));
+        let mut counts = [d.from; 8];
+        let result = desk(&mut counts, d.desk, &d.request, &r.image, &mut out);
+        r.holds(result, &out) && counts == d.after
+    };
+    let wrong: Vec<String> = records().iter().filter(|r| !agrees(r)).map(|r| r.question.to_string()).collect();
+    assert_eq!(wrong, Vec::<String>::new());
+}
