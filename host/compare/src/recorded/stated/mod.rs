@@ -5,6 +5,7 @@
 mod checkpoints;
 mod desks;
 mod keys;
+mod listed;
 mod listing;
 mod marked;
 mod marks;
@@ -197,7 +198,7 @@ pub fn of_marks() -> Vec<Group> {
 
 /// Those of request 06.
 pub fn of_desks() -> Vec<Group> {
-    [nodes::groups(), desks::groups()].into_iter().flatten().collect()
+    [nodes::groups(), listed::groups(), desks::groups()].into_iter().flatten().collect()
 }
 
 /// An error tells each case that the oracle answers otherwise.
