@@ -4,7 +4,9 @@
 use std::sync::OnceLock;
 
 use sticks::block::{get16, get32, put16, put32, seal, BTREE, BTREE_NODE};
-use sticks::contents::{Attribute, Contents, Data, Key, Stream, COMPRESSED, LINK_ATTRIBUTE, STREAM_FLAG};
+use sticks::contents::{
+    Attribute, Contents, Data, Extent, Key, Source, Stream, COMPRESSED, LINK_ATTRIBUTE, STREAM_FLAG,
+};
 use sticks::plan::large;
 use sticks::random::Random;
 use sticks::{make, Plan};
@@ -13,7 +15,7 @@ use crate::calls::call::Call;
 use crate::desks::draw::{room, Drawn};
 use crate::desks::request::{self as what, Request};
 use crate::recorded::stated::stick::{
-    at_block, contents, directory, embedded, entry, file, plan, sized, stored, streamed, BLOCK, FILE, ROOT,
+    at_block, contents, directory, embedded, entry, file, plan, sized, streamed, BLOCK, FILE, ROOT,
 };
 
 pub const DIRECTORY: u64 = 20;
@@ -41,7 +43,7 @@ type Change = fn(&mut [u8]);
 /// A root that has three attributes, two of them in streams, and four entries: a file of two extents, a directory with
 /// the same file in it, a link whose text is a stream, and a compressed file.
 pub fn rounds() -> Contents {
-    let mut c = sized(SIZE, vec![stored(0, &[1; 4096]), stored(4096, &[2; 904])]);
+    let mut c = sized(SIZE, vec![short(0, b"one", 4096), short(4096, b"two", SIZE - 4096)]);
     let of_root = [("data", FILE), ("dir", DIRECTORY), ("link", LINK), ("pack", PACKED)];
     c.files[0] = directory(ROOT, &of_root);
     c.files[1].inode.mode = REGULAR;
@@ -52,10 +54,17 @@ pub fn rounds() -> Contents {
     let mut packed = file(PACKED);
     packed.inode.bsd = COMPRESSED;
     c.files.extend([directory(DIRECTORY, &[("data", FILE)]), link, packed]);
-    let text = |id: u64, bytes: &[u8]| Stream { id, extents: vec![stored(0, bytes)] };
+    let text = |id: u64, bytes: &[u8]| Stream { id, extents: vec![short(0, bytes, bytes.len() as u64)] };
     c.streams.extend([text(STREAMS[0], b"first"), text(STREAMS[1], b"two"), text(STREAMS[2], b"data")]);
     c.streams.push(text(PACKED, b"packed"));
     c
+}
+
+/// An extent that begins with these bytes, and is zeros behind them, so that it takes little to write down.
+fn short(logical: u64, bytes: &[u8], length: u64) -> Extent {
+    let mut data = bytes.to_vec();
+    data.resize((length as usize).next_multiple_of(BLOCK), 0);
+    Extent { logical, length, source: Source::Bytes(data) }
 }
 
 /// One record a leaf, below one root.
@@ -98,7 +107,7 @@ fn faults() -> Vec<Contents> {
         with(|c| c.files[1].inode.fields[0].data.truncate(3)),
         with(|c| c.files.push(c.files[1].clone())),
         with(|c| c.files[3].attributes[0].name = b"other".to_vec()),
-        with(|c| c.streams[0].extents[1] = stored(4095, &[2; 904])),
+        with(|c| c.streams[0].extents[1].logical -= 1),
     ]);
     all
 }
