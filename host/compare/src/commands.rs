@@ -266,7 +266,8 @@ pub fn desks(seed: u64, count: u64) {
     let run = desks::run::Run::over(seed, count, desks_ports());
     print!("seed {seed}, {count} sticks, {} images\n{}", run.images, run.tally);
     let missing = if desks_ports().is_some() { run.tally.missing() } else { Vec::new() };
-    let good = saw_all(!run.report_failure(desks_ports(), Path::new("target")), missing);
+    let mut good = saw_all(!run.report_failure(desks_ports(), Path::new("target")), missing);
+    good &= vast(desks_ports().map(desks::run::vast));
     finish("desks", good, if desks_ports().is_some() { "all agree" } else { "the oracle alone was asked" });
 }
 

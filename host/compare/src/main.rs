@@ -61,8 +61,8 @@ const DEFAULT_FOR_PAIRS: u64 = 300;
 const DEFAULT_FOR_MAPS: u64 = 2000;
 /// Objects of up to 16,384 bytes, of which the oracle sums all for each word.
 const DEFAULT_FOR_WORDS: u64 = 20_000;
-/// Each stick has some eight images, and some 60 calls are made on each volume of one.
-const DEFAULT_FOR_DESKS: u64 = 100;
+/// Each stick has some eight images, and some 60 calls are made on each volume of one, most of them twice.
+const DEFAULT_FOR_DESKS: u64 = 200;
 const USAGE: &str =
     "usage: compare [record FILE | record-calls FILE | replay FILE | sticks | volumes | calls | list | parts | checkpoints | pairs | maps | words | desks | reach | bench | open FILE..] \
                      [--seed N] [--count K]";

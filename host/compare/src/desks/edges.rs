@@ -14,6 +14,7 @@ use sticks::{make, Plan};
 use crate::calls::call::Call;
 use crate::desks::draw::{room, Drawn};
 use crate::desks::request::{self as what, Request};
+use crate::list::long;
 use crate::recorded::stated::stick::{
     at_block, contents, directory, embedded, entry, file, plan, sized, streamed, BLOCK, FILE, ROOT,
 };
@@ -35,7 +36,7 @@ const NODE_ROOT: u16 = 0x1;
 const HASHED: u16 = 0x8;
 const TOO_HIGH: u16 = 33;
 const OTHER_KIND: u32 = 0x0b;
-/// Of an image at fault one of so many requests is made.
+/// Of an image with a node at fault one of so many calls is asked for.
 const SHARE: usize = 12;
 
 type Change = fn(&mut [u8]);
@@ -138,27 +139,38 @@ fn spoiled(image: &[u8]) -> Vec<Vec<u8>> {
     each.flat_map(|node| [spoil(node, &levels), spoil(node, &others)]).collect()
 }
 
-pub struct Images {
-    /// Whole, or with a record at fault.
-    pub whole: Vec<Vec<u8>>,
-    /// With a node at fault.
-    pub spoiled: Vec<Vec<u8>>,
+/// What is asked about an image.
+#[derive(Clone, Copy, Debug, PartialEq, Eq)]
+pub enum Asked {
+    /// Every call on every id, and the listing cut at each line.
+    All,
+    Some,
+    /// The listing and its measure.
+    Listing,
+}
+
+pub struct Edge {
+    pub image: Vec<u8>,
+    pub asked: Asked,
 }
 
 /// Made once.
-pub fn images() -> &'static Images {
-    static IMAGES: OnceLock<Images> = OnceLock::new();
-    IMAGES.get_or_init(made)
+pub fn edges() -> &'static [Edge] {
+    static EDGES: OnceLock<Vec<Edge>> = OnceLock::new();
+    EDGES.get_or_init(made)
 }
 
-fn made() -> Images {
+fn made() -> Vec<Edge> {
     let image = |plan: Plan| make(plan).image;
     let chains = [64, 65].map(|depth| image(wide(large::chain(depth, 1))));
     let alone = contents(vec![file(ROOT)]);
     let whole: Vec<Vec<u8>> = [plan(rounds()), wide(rounds()), tall(rounds()), plan(alone)].map(image).into();
     let faults = faults().into_iter().flat_map(|c| [wide(c.clone()), tall(c)]).map(image);
     let spoiled = spoiled(&whole[2]);
-    Images { whole: [whole, chains.into(), faults.collect()].concat(), spoiled }
+    let long = long::sticks().into_iter().map(|stick| stick.image).collect();
+    let all = [whole, chains.into(), faults.collect()].concat();
+    let each = [(all, Asked::All), (spoiled, Asked::Some), (long, Asked::Listing)].into_iter();
+    each.flat_map(|(images, asked)| images.into_iter().map(move |image| Edge { image, asked })).collect()
 }
 
 fn on(id: u64) -> Vec<Call> {
@@ -185,11 +197,13 @@ fn calls() -> Vec<Call> {
     out
 }
 
-pub fn requests(at_fault: bool, r: &mut Random) -> Vec<Drawn> {
+pub fn requests(asked: Asked, r: &mut Random) -> Vec<Drawn> {
     let mut calls = calls();
-    if at_fault {
-        r.shuffle(&mut calls);
-        calls.truncate(calls.len() / SHARE);
+    r.shuffle(&mut calls);
+    match asked {
+        Asked::All => {}
+        Asked::Some => calls.truncate(calls.len() / SHARE),
+        Asked::Listing => calls.clear(),
     }
     let call = |call: &Call, r: &mut Random| (Request::from(call), call.room().unwrap_or_else(|| room(r)));
     let mut out: Vec<(Request, usize)> = calls.iter().map(|c| call(c, r)).collect();

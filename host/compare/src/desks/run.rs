@@ -6,9 +6,12 @@ use std::sync::Arc;
 use sticks::random::Random;
 
 use crate::calls::directory::Rule;
+use crate::calls::vast;
 use crate::desks::account::Account;
-use crate::desks::edges::{self, Images};
+use crate::desks::draw;
+use crate::desks::edges::{edges, requests, Asked, Edge};
 use crate::desks::order::{self, Made};
+use crate::desks::request::NO_CALL;
 use crate::desks::tally::Tally;
 use crate::desks::trial::{asked, read_part, Checked, Mismatch, Trial};
 use crate::desks::variants::{self, Variant};
@@ -70,14 +73,12 @@ impl Run {
 
     /// The sticks that no seed draws.
     fn edges(&mut self, ports: Option<Ports>) {
-        let Images { whole, spoiled } = edges::images();
-        let images = whole.iter().map(|image| (image, false)).chain(spoiled.iter().map(|image| (image, true)));
-        for (stick, (image, at_fault)) in (0..).zip(images) {
+        for (stick, Edge { image, asked }) in (0..).zip(edges()) {
             let (image, mut random) = (Image::of(image.clone()), Random::new(stick));
-            let requests = edges::requests(at_fault, &mut random);
+            let requests = requests(*asked, &mut random);
             let (counts, tally, made) = (&mut self.counts, &mut self.tally, &mut self.made);
             let mut trial = Trial { image: &image, checkpoint: None, ports, random, counts, tally, made };
-            let checked = trial.given(requests, if at_fault { 0 } else { LINES });
+            let checked = trial.given(requests, if *asked == Asked::All { LINES } else { 0 });
             self.images += 1;
             self.made.clear();
             if let Err(mismatch) = checked {
@@ -120,6 +121,20 @@ impl Run {
         }
         true
     }
+}
+
+/// How many calls agreed on images about 2^34 bytes long, of which nothing is gone through.
+pub fn vast(ports: Ports) -> Result<Option<u64>, String> {
+    vast::over(&|image, number| {
+        let drawn = draw::each(&mut Random::new(number));
+        let calls: Vec<_> = drawn.into_iter().filter(|d| d.request.name() != NO_CALL).collect();
+        for d in &calls {
+            let result = asked(ports, image, d, (3, &mut [5; 8]), 0);
+            let told = result.and_then(|n| if n == -(number as i64) { Ok(()) } else { Err(format!("{n}")) });
+            told.map_err(|e| format!("an image of {} bytes, {}: {e}", image.len(), d.request))?;
+        }
+        Ok(calls.len() as u64)
+    })
 }
 
 /// The image with all gone that the failure can do without.

@@ -15,7 +15,7 @@ use compare::calls::directory::Rule;
 use compare::desks::account::Account;
 use compare::desks::by_oracle::{distinct, reads};
 use compare::desks::request::{Request, LIST, LOOKUP, OPEN};
-use compare::desks::run::Run;
+use compare::desks::run::{vast, Run};
 use compare::desks::{add, Plain, Ports};
 use compare::recorded::stated::stick::empty;
 use stand::{Slip, Stand, ALL};
@@ -101,6 +101,22 @@ fn the_smallest_volume_is_counted_by_hand() {
     let [container, volume, tree] = [lookup[0], lookup[2], lookup[4]];
     assert_eq!(lookup, [container, container, volume, volume, tree, tree]);
     assert_eq!([OPEN, LOOKUP].map(|what| reads(&part, &Request::of(what))), [Some(1), Some(3)]);
+}
+
+#[test]
+fn an_image_over_the_bound_is_told_from_one_at_it() {
+    let right = |_: &Request, image: &[u8], _: &mut [u8]| if image.len() > 1 << 34 { -7 } else { -11 };
+    let of = |plain: Plain, nodes: u64| {
+        let desk = |counts: &mut _, desk: u64, r: &Request, image: &[u8], out: &mut [u8]| {
+            add(counts, desk, nodes);
+            plain(r, image, out)
+        };
+        vast(Ports { desk: &desk, plain })
+    };
+    let Some(agreed) = of(&right, 0).expect("no slip") else { return };
+    assert!(agreed > 20);
+    assert!(of(&right, 1).is_err());
+    assert!(of(&|_, _, _| -11, 0).is_err());
 }
 
 #[test]
