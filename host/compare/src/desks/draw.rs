@@ -37,13 +37,39 @@ fn drawn(call: &Call, r: &mut Random) -> Drawn {
     Drawn { request: Request::from(call), room: call.room().unwrap_or_else(|| room(r)) }
 }
 
-/// At a checkpoint, in one of the ways to name it; numbers that say nothing are far from any that do.
+/// At a checkpoint, in one of the ways to name it.
 pub fn at(request: Request, checkpoint: Option<u64>, volume: u64, r: &mut Random) -> Request {
     let (numbered, xid) = match checkpoint {
         Some(xid) => (r.pick(&NUMBERED), xid),
         None => (0, r.pick(&[0, 1, 100_000, u64::MAX])),
     };
-    Request { numbered, xid, volume, ..request }
+    let request = Request { numbered, xid, volume, ..request };
+    if r.chance(1, 2) {
+        request
+    } else {
+        strewn(request, r)
+    }
+}
+
+/// Numbers and bytes that the call does not look at may be any.
+fn strewn(mut request: Request, r: &mut Random) -> Request {
+    let (numbers, path) = match request.what {
+        what::LOOKUP | what::MARKED => (0, true),
+        what::LINK => (1, false),
+        what::READ..=what::ENTRIES if request.what != what::LIST => (2, false),
+        what::MARK | what::REPLACED => (3, false),
+        _ => (0, false),
+    };
+    let unused = [&mut request.a, &mut request.b, &mut request.c].into_iter().skip(numbers);
+    unused.for_each(|n| *n = r.pick(&[1, 2, 255, r.clone().draw(), u64::MAX]));
+    if !path {
+        request.path = r.bytes(5);
+    }
+    if request.what == what::MARK {
+        // Of a kind its low byte is looked at.
+        request.c |= r.draw() << 8;
+    }
+    request
 }
 
 /// One call of each, for a volume that may not open.

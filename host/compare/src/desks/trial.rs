@@ -51,7 +51,7 @@ pub struct Trial<'a> {
     pub made: &'a mut Vec<Made>,
 }
 
-/// One call by a desk, whose counts go up by so many nodes and no others: the result.
+/// One call by a desk, whose count goes up by so many nodes, and no other: the result.
 pub fn asked(
     ports: Ports,
     bytes: &[u8],

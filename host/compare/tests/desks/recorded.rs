@@ -1,8 +1,10 @@
 //! The recorded calls of desks, which `crates/cases` replays: each is still what the oracle answers and what the account
 //! counts, and slips are found by them.
 
+use std::collections::BTreeSet;
+
 use compare::calls::check::pattern;
-use compare::desks::request::Request;
+use compare::desks::request::{Request, NAMES, NO_CALL};
 use compare::image::Image;
 use compare::recorded::asked::{told, Asked, Question, Told};
 use compare::recorded::at_desk::AtDesk;
@@ -87,6 +89,16 @@ fn what_is_stated_is_counted() {
         .map(|r| r.question.to_string())
         .collect();
     assert_eq!(wrong, Vec::<String>::new());
+}
+
+#[test]
+fn every_call_and_refusal_is_there() {
+    let seen: BTreeSet<(&str, u8)> = records().iter().map(|r| (at_desk(r).request.name(), r.answer.0)).collect();
+    let missing: Vec<&str> = NAMES.into_iter().filter(|name| !seen.contains(&(name, 0))).collect();
+    assert_eq!(missing, Vec::<&str>::new());
+    let refusals: BTreeSet<u8> = seen.iter().map(|(_, n)| *n).filter(|n| *n > 0).collect();
+    assert_eq!(refusals.into_iter().collect::<Vec<_>>(), [1, 2, 3, 4, 5, 6, 9, 10, 11, 13, 14]);
+    assert!(seen.contains(&(NO_CALL, 4)));
 }
 
 #[test]

@@ -97,7 +97,7 @@ fn calls() -> Group {
         listing(LISTED, Answered),
         measure(LISTED, Answered),
         mark(ROOT, 9, 0, list(1)),
-        mark(ROOT, 9, 9, list(4)),
+        mark(ROOT, 0x109, 9, list(4)),
         nodes(Request { path: vec![0; 24], ..Request::of(what::MARKED) }, 1, Answered),
         name(0, ROOT, 0, Answered),
         name(1, FILE, INODE, Answered),

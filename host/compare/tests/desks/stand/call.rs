@@ -87,8 +87,9 @@ impl Volume<'_> {
     }
 
     fn mark(&self, r: &Request) -> Result<()> {
-        let mut left = r.b;
-        self.records(r.a, r.c as u8, &mut |_, _| {
+        let (mut left, none) = (r.b, 16);
+        let kind = if r.c > 255 && self.has(S::MarkOfWholeKind) { none } else { r.c as u8 };
+        self.records(r.a, kind, &mut |_, _| {
             let goes_on = left > 0 || self.has(S::MarkToTheEnd);
             left = left.saturating_sub(1);
             Ok(goes_on)

@@ -39,6 +39,7 @@ slips! {
     PackedFileRead,
     ReadPastSizeNotRead,
     MarkToTheEnd,
+    MarkOfWholeKind,
     MarkedOpensVolume,
     RootBeforeFive,
     KindReadsInode,
