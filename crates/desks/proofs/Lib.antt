@@ -1,3 +1,4 @@
 pub mod Laws
 pub mod Numbered
 pub mod Alone
+pub mod Usual
