@@ -1,4 +1,4 @@
--- WRONG WORDS at the exported call: what `apfs_wrong_words` gives. Document 02, request 13. It is proved, as `apfs-wrong-words`, in
+-- WRONG WORDS at the exported call: what `apfs_wrong_words` gives. Document 02, request 13. It is proved, as `apfs_wrong_words`, in
 -- proofs/WrongWords.antt.
 --
 -- Of every object and every buffer: the call gives how many entries there are, and the buffer begins with them, 12 bytes each; or -6 where they do not
@@ -6,9 +6,9 @@
 -- by place and then by word.
 --
 -- `Mends`, `Member` and `Rising` stand in wrong_word, specs/Listed.antt. By its contract (src/object.rt) `apfs_wrong_words(object, out)` gives
--- `number (mendsIn (mendsOf object) out).answer` and leaves `(mendsIn (mendsOf object) out).buffer`.
+-- `number (mends_in (mends_of object) out).answer` and leaves `(mends_in (mends_of object) out).buffer`.
 use Rattle.std.specs.Prelude.{ℕ, ◌*◌, ◌≤◌, ◌<◌, ◌≡◌, List, ◌++◌, ℤ, pos, length, drop}
-use Rattle.wrong_word.specs.Mends.{Mend, mendsOf, mendsIn, listed}
+use Rattle.wrong_word.specs.Mends.{Mend, mends_of, mends_in, listed}
 use Rattle.wrong_word.specs.Listed.{Mends, Member, Rising}
 use Rattle.results.specs.Call.{number}
 use Rattle.apfs.specs.Opened.{Refused}
@@ -27,4 +27,4 @@ pub data GivesWords (object out : List ℕ) (result : ℤ) (buffer : List ℕ) :
   too_short : (ms : List Mend) → Exactly object ms → length out < 12 * length ms → Refused out result buffer 6 → GivesWords object out result buffer
 
 abbrev pub ApfsWrongWords : Type 0
-ApfsWrongWords = (object out : List ℕ) → GivesWords object out (number (mendsIn (mendsOf object) out).answer) (mendsIn (mendsOf object) out).buffer
+ApfsWrongWords = (object out : List ℕ) → GivesWords object out (number (mends_in (mends_of object) out).answer) (mends_in (mends_of object) out).buffer

@@ -1,12 +1,12 @@
 // Bookmarks of records: document 02, request 10.
 ghost use Rattle.std.specs.Prelude.{◌≡◌};
-ghost use Rattle.gpt.specs.Part.{onPart};
+ghost use Rattle.gpt.specs.Part.{on_part};
 ghost use Rattle.checkpoints.specs.declared.by_number.Choice.TheVariants.{Latest, Number};
 ghost use Rattle.volume.specs.Open.{latest, numbered};
-ghost use Rattle.marks.specs.Texts.{markText, markedText};
-ghost use Rattle.results.specs.Call.{result_of, bufferOf};
+ghost use Rattle.marks.specs.Texts.{mark_text, marked_text};
+ghost use Rattle.results.specs.Call.{result_of, buffer_of};
 
-use bytes::{Sliced, part};
+use byte_fields::{Sliced, part};
 use checkpoints::Choice;
 use gpt::part_of_image;
 use marks::{mark_text, marked_text};
@@ -14,7 +14,7 @@ use results::{refused, result_of};
 use volume::Which;
 
 fn mark_part(image: &[u8], which: Which, id: u64, kind: u8, place: u64, out: &mut [u8]) -> i64
-    ensures { (result ≡ result_of (onPart (λ p. markText p which id kind place) image.now) out.old) × (out.new ≡ bufferOf (onPart (λ p. markText p which id kind place) image.now) out.old) }
+    ensures { (result ≡ result_of (on_part (λ p. mark_text p which id kind place) image.now) out.old) × (out.new ≡ buffer_of (on_part (λ p. mark_text p which id kind place) image.now) out.old) }
 {
     match part_of_image(image) {
         Sliced::Got(s) => result_of(mark_text(part(image, s), which, id, kind, place, out)),
@@ -23,7 +23,7 @@ fn mark_part(image: &[u8], which: Which, id: u64, kind: u8, place: u64, out: &mu
 }
 
 fn marked_part(image: &[u8], choice: Choice, mark: &[u8], out: &mut [u8]) -> i64
-    ensures { (result ≡ result_of (onPart (λ p. markedText choice p mark.now) image.now) out.old) × (out.new ≡ bufferOf (onPart (λ p. markedText choice p mark.now) image.now) out.old) }
+    ensures { (result ≡ result_of (on_part (λ p. marked_text choice p mark.now) image.now) out.old) × (out.new ≡ buffer_of (on_part (λ p. marked_text choice p mark.now) image.now) out.old) }
 {
     match part_of_image(image) {
         Sliced::Got(s) => result_of(marked_text(part(image, s), choice, mark, out)),
@@ -41,7 +41,7 @@ pub extern "C" fn apfs_mark(
     place: u64,
     out: &mut [u8],
 ) -> i64
-    ensures { (result ≡ result_of (onPart (λ p. markText p (latest volume) id kind place) image.now) out.old) × (out.new ≡ bufferOf (onPart (λ p. markText p (latest volume) id kind place) image.now) out.old) }
+    ensures { (result ≡ result_of (on_part (λ p. mark_text p (latest volume) id kind place) image.now) out.old) × (out.new ≡ buffer_of (on_part (λ p. mark_text p (latest volume) id kind place) image.now) out.old) }
 {
     mark_part(
         image,
@@ -66,7 +66,7 @@ pub extern "C" fn apfs_mark_at(
     place: u64,
     out: &mut [u8],
 ) -> i64
-    ensures { (result ≡ result_of (onPart (λ p. markText p (numbered xid volume) id kind place) image.now) out.old) × (out.new ≡ bufferOf (onPart (λ p. markText p (numbered xid volume) id kind place) image.now) out.old) }
+    ensures { (result ≡ result_of (on_part (λ p. mark_text p (numbered xid volume) id kind place) image.now) out.old) × (out.new ≡ buffer_of (on_part (λ p. mark_text p (numbered xid volume) id kind place) image.now) out.old) }
 {
     mark_part(
         image,
@@ -84,14 +84,14 @@ pub extern "C" fn apfs_mark_at(
 // The line of the record that a bookmark leads to.
 #[unsafe(no_mangle)]
 pub extern "C" fn apfs_marked(image: &[u8], mark: &[u8], out: &mut [u8]) -> i64
-    ensures { (result ≡ result_of (onPart (λ p. markedText Latest p mark.now) image.now) out.old) × (out.new ≡ bufferOf (onPart (λ p. markedText Latest p mark.now) image.now) out.old) }
+    ensures { (result ≡ result_of (on_part (λ p. marked_text Latest p mark.now) image.now) out.old) × (out.new ≡ buffer_of (on_part (λ p. marked_text Latest p mark.now) image.now) out.old) }
 {
     marked_part(image, Choice::Latest, mark, out)
 }
 
 #[unsafe(no_mangle)]
 pub extern "C" fn apfs_marked_at(image: &[u8], xid: u64, mark: &[u8], out: &mut [u8]) -> i64
-    ensures { (result ≡ result_of (onPart (λ p. markedText (Number xid) p mark.now) image.now) out.old) × (out.new ≡ bufferOf (onPart (λ p. markedText (Number xid) p mark.now) image.now) out.old) }
+    ensures { (result ≡ result_of (on_part (λ p. marked_text (Number xid) p mark.now) image.now) out.old) × (out.new ≡ buffer_of (on_part (λ p. marked_text (Number xid) p mark.now) image.now) out.old) }
 {
     marked_part(image, Choice::Number(xid), mark, out)
 }

@@ -1,6 +1,6 @@
 // The calls through one dock, each at a desk whose nodes are counted: document 02, request 06.
 ghost use Rattle.std.specs.Prelude.{◌≡◌, length};
-ghost use Rattle.desks.specs.Requests.{asked, resultFor, bufferFor, nodesOf};
+ghost use Rattle.desks.specs.Requests.{asked, result_for, buffer_for, nodes_of};
 ghost use Rattle.desks.specs.Desks.{added};
 
 use desks::{DeskCounts, call, more_by, result_in};
@@ -21,9 +21,9 @@ pub extern "C" fn apfs_desk(
     path: &[u8],
     out: &mut [u8],
 ) -> i64
-    ensures { (result ≡ resultFor (asked what image.now numbered xid volume a b c path.now (length out.old)) out.old)
-        × (out.new ≡ bufferFor (asked what image.now numbered xid volume a b c path.now (length out.old)) out.old)
-        × (counts.new.counts ≡ added counts.old.counts desk (nodesOf (asked what image.now numbered xid volume a b c path.now (length out.old)))) }
+    ensures { (result ≡ result_for (asked what image.now numbered xid volume a b c path.now (length out.old)) out.old)
+        × (out.new ≡ buffer_for (asked what image.now numbered xid volume a b c path.now (length out.old)) out.old)
+        × (counts.new.counts ≡ added counts.old.counts desk (nodes_of (asked what image.now numbered xid volume a b c path.now (length out.old)))) }
 {
     let t = call(what, image, numbered, xid, volume, a, b, c, path, out);
     *counts = more_by(*counts, desk, t);

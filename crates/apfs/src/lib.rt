@@ -7,18 +7,18 @@ mod object;
 mod on_part;
 
 ghost use Rattle.std.specs.Prelude.{◌≡◌, length};
-ghost use Rattle.gpt.specs.Part.{onPart};
-ghost use Rattle.demand.specs.Demand.{listingOf};
+ghost use Rattle.gpt.specs.Part.{on_part};
+ghost use Rattle.demand.specs.Demand.{listing_of};
 ghost use Rattle.listing.specs.Listed.{listed_of};
-ghost use Rattle.part_line.specs.Line.{partText};
-ghost use Rattle.container_line.specs.Container.{openText};
-ghost use Rattle.element_lines.specs.Elements.{lookupText, entryText, extentText};
-ghost use Rattle.entry_lines.specs.Entries.{entriesText};
-ghost use Rattle.attribute_lines.specs.Attributes.{attributeText};
-ghost use Rattle.reads.specs.Reads.{readText, linkText, xattrBytes};
-ghost use Rattle.replaced_line.specs.Line.{replacedText};
-ghost use Rattle.measure.specs.Line.{measureText};
-ghost use Rattle.results.specs.Call.{number, result_of, bufferOf};
+ghost use Rattle.part_line.specs.Line.{part_text};
+ghost use Rattle.container_line.specs.Container.{open_text};
+ghost use Rattle.element_lines.specs.Elements.{lookup_text, entry_text, extent_text};
+ghost use Rattle.entry_lines.specs.Entries.{entries_text};
+ghost use Rattle.attribute_lines.specs.Attributes.{attribute_text};
+ghost use Rattle.reads.specs.Reads.{read_text, link_text, xattr_bytes};
+ghost use Rattle.replaced_line.specs.Line.{replaced_text};
+ghost use Rattle.measure.specs.Line.{measure_text};
+ghost use Rattle.results.specs.Call.{number, result_of, buffer_of};
 ghost use Rattle.checkpoints.specs.declared.by_number.Choice.TheVariants.{Latest};
 ghost use Rattle.volume.specs.Open.{latest};
 
@@ -42,7 +42,7 @@ use volume::Which;
 // The line of the part that a container is in.
 #[unsafe(no_mangle)]
 pub extern "C" fn apfs_part(image: &[u8], out: &mut [u8]) -> i64
-    ensures { (result ≡ result_of (partText image.now) out.old) × (out.new ≡ bufferOf (partText image.now) out.old) }
+    ensures { (result ≡ result_of (part_text image.now) out.old) × (out.new ≡ buffer_of (part_text image.now) out.old) }
 {
     result(part_text(image, out))
 }
@@ -50,7 +50,7 @@ pub extern "C" fn apfs_part(image: &[u8], out: &mut [u8]) -> i64
 // The line of a container.
 #[unsafe(no_mangle)]
 pub extern "C" fn apfs_open(image: &[u8], out: &mut [u8]) -> i64
-    ensures { (result ≡ result_of (onPart (openText Latest) image.now) out.old) × (out.new ≡ bufferOf (onPart (openText Latest) image.now) out.old) }
+    ensures { (result ≡ result_of (on_part (open_text Latest) image.now) out.old) × (out.new ≡ buffer_of (on_part (open_text Latest) image.now) out.old) }
 {
     open_part(image, Choice::Latest, out)
 }
@@ -58,7 +58,7 @@ pub extern "C" fn apfs_open(image: &[u8], out: &mut [u8]) -> i64
 // The line of the inode that a path leads to.
 #[unsafe(no_mangle)]
 pub extern "C" fn apfs_lookup(image: &[u8], volume: u64, path: &[u8], out: &mut [u8]) -> i64
-    ensures { (result ≡ result_of (onPart (λ p. lookupText p (latest volume) path.now) image.now) out.old) × (out.new ≡ bufferOf (onPart (λ p. lookupText p (latest volume) path.now) image.now) out.old) }
+    ensures { (result ≡ result_of (on_part (λ p. lookup_text p (latest volume) path.now) image.now) out.old) × (out.new ≡ buffer_of (on_part (λ p. lookup_text p (latest volume) path.now) image.now) out.old) }
 {
     lookup_part(
         image,
@@ -74,7 +74,7 @@ pub extern "C" fn apfs_lookup(image: &[u8], volume: u64, path: &[u8], out: &mut 
 // The bytes of a file from an offset on.
 #[unsafe(no_mangle)]
 pub extern "C" fn apfs_read(image: &[u8], volume: u64, id: u64, offset: u64, out: &mut [u8]) -> i64
-    ensures { (result ≡ result_of (onPart (λ p. readText p (latest volume) id offset (length out.old)) image.now) out.old) × (out.new ≡ bufferOf (onPart (λ p. readText p (latest volume) id offset (length out.old)) image.now) out.old) }
+    ensures { (result ≡ result_of (on_part (λ p. read_text p (latest volume) id offset (length out.old)) image.now) out.old) × (out.new ≡ buffer_of (on_part (λ p. read_text p (latest volume) id offset (length out.old)) image.now) out.old) }
 {
     read_part(
         image,
@@ -91,7 +91,7 @@ pub extern "C" fn apfs_read(image: &[u8], volume: u64, id: u64, offset: u64, out
 // The line of a directory entry, by place.
 #[unsafe(no_mangle)]
 pub extern "C" fn apfs_entry(image: &[u8], volume: u64, id: u64, place: u64, out: &mut [u8]) -> i64
-    ensures { (result ≡ result_of (onPart (λ p. entryText p (latest volume) id place) image.now) out.old) × (out.new ≡ bufferOf (onPart (λ p. entryText p (latest volume) id place) image.now) out.old) }
+    ensures { (result ≡ result_of (on_part (λ p. entry_text p (latest volume) id place) image.now) out.old) × (out.new ≡ buffer_of (on_part (λ p. entry_text p (latest volume) id place) image.now) out.old) }
 {
     entry_part(
         image,
@@ -114,7 +114,7 @@ pub extern "C" fn apfs_entries(
     place: u64,
     out: &mut [u8],
 ) -> i64
-    ensures { (result ≡ result_of (onPart (λ p. entriesText p (latest volume) id place (length out.old)) image.now) out.old) × (out.new ≡ bufferOf (onPart (λ p. entriesText p (latest volume) id place (length out.old)) image.now) out.old) }
+    ensures { (result ≡ result_of (on_part (λ p. entries_text p (latest volume) id place (length out.old)) image.now) out.old) × (out.new ≡ buffer_of (on_part (λ p. entries_text p (latest volume) id place (length out.old)) image.now) out.old) }
 {
     entries_part(
         image,
@@ -131,7 +131,7 @@ pub extern "C" fn apfs_entries(
 // The line of an attribute with its contents, by place.
 #[unsafe(no_mangle)]
 pub extern "C" fn apfs_xattr(image: &[u8], volume: u64, id: u64, place: u64, out: &mut [u8]) -> i64
-    ensures { (result ≡ result_of (onPart (λ p. attributeText p (latest volume) id place) image.now) out.old) × (out.new ≡ bufferOf (onPart (λ p. attributeText p (latest volume) id place) image.now) out.old) }
+    ensures { (result ≡ result_of (on_part (λ p. attribute_text p (latest volume) id place) image.now) out.old) × (out.new ≡ buffer_of (on_part (λ p. attribute_text p (latest volume) id place) image.now) out.old) }
 {
     xattr_part(
         image,
@@ -154,7 +154,7 @@ pub extern "C" fn apfs_xattr_bytes(
     place: u64,
     out: &mut [u8],
 ) -> i64
-    ensures { (result ≡ result_of (onPart (λ p. xattrBytes p (latest volume) id place) image.now) out.old) × (out.new ≡ bufferOf (onPart (λ p. xattrBytes p (latest volume) id place) image.now) out.old) }
+    ensures { (result ≡ result_of (on_part (λ p. xattr_bytes p (latest volume) id place) image.now) out.old) × (out.new ≡ buffer_of (on_part (λ p. xattr_bytes p (latest volume) id place) image.now) out.old) }
 {
     xattr_bytes_part(
         image,
@@ -171,7 +171,7 @@ pub extern "C" fn apfs_xattr_bytes(
 // The text of a symbolic link.
 #[unsafe(no_mangle)]
 pub extern "C" fn apfs_link(image: &[u8], volume: u64, id: u64, out: &mut [u8]) -> i64
-    ensures { (result ≡ result_of (onPart (λ p. linkText p (latest volume) id) image.now) out.old) × (out.new ≡ bufferOf (onPart (λ p. linkText p (latest volume) id) image.now) out.old) }
+    ensures { (result ≡ result_of (on_part (λ p. link_text p (latest volume) id) image.now) out.old) × (out.new ≡ buffer_of (on_part (λ p. link_text p (latest volume) id) image.now) out.old) }
 {
     link_part(
         image,
@@ -194,7 +194,7 @@ pub extern "C" fn apfs_replaced(
     place: u64,
     out: &mut [u8],
 ) -> i64
-    ensures { (result ≡ result_of (onPart (λ p. replacedText p (latest volume) kind id place) image.now) out.old) × (out.new ≡ bufferOf (onPart (λ p. replacedText p (latest volume) kind id place) image.now) out.old) }
+    ensures { (result ≡ result_of (on_part (λ p. replaced_text p (latest volume) kind id place) image.now) out.old) × (out.new ≡ buffer_of (on_part (λ p. replaced_text p (latest volume) kind id place) image.now) out.old) }
 {
     replaced_part(
         image,
@@ -212,7 +212,7 @@ pub extern "C" fn apfs_replaced(
 // The line of a file's extent, by place.
 #[unsafe(no_mangle)]
 pub extern "C" fn apfs_extent(image: &[u8], volume: u64, id: u64, place: u64, out: &mut [u8]) -> i64
-    ensures { (result ≡ result_of (onPart (λ p. extentText p (latest volume) id place) image.now) out.old) × (out.new ≡ bufferOf (onPart (λ p. extentText p (latest volume) id place) image.now) out.old) }
+    ensures { (result ≡ result_of (on_part (λ p. extent_text p (latest volume) id place) image.now) out.old) × (out.new ≡ buffer_of (on_part (λ p. extent_text p (latest volume) id place) image.now) out.old) }
 {
     extent_part(
         image,
@@ -229,7 +229,7 @@ pub extern "C" fn apfs_extent(image: &[u8], volume: u64, id: u64, place: u64, ou
 // The listing of a volume.
 #[unsafe(no_mangle)]
 pub extern "C" fn apfs_list(image: &[u8], volume: u64, out: &mut [u8]) -> i64
-    ensures { (result ≡ number (listed_of (listingOf image.now (latest volume) (length out.old)) out.old).answer) × (out.new ≡ (listed_of (listingOf image.now (latest volume) (length out.old)) out.old).buffer) }
+    ensures { (result ≡ number (listed_of (listing_of image.now (latest volume) (length out.old)) out.old).answer) × (out.new ≡ (listed_of (listing_of image.now (latest volume) (length out.old)) out.old).buffer) }
 {
     list_part(
         image,
@@ -244,7 +244,7 @@ pub extern "C" fn apfs_list(image: &[u8], volume: u64, out: &mut [u8]) -> i64
 // How long the listing of a volume will be, and how deep.
 #[unsafe(no_mangle)]
 pub extern "C" fn apfs_measure(image: &[u8], volume: u64, out: &mut [u8]) -> i64
-    ensures { (result ≡ result_of (onPart (λ p. measureText p (latest volume)) image.now) out.old) × (out.new ≡ bufferOf (onPart (λ p. measureText p (latest volume)) image.now) out.old) }
+    ensures { (result ≡ result_of (on_part (λ p. measure_text p (latest volume)) image.now) out.old) × (out.new ≡ buffer_of (on_part (λ p. measure_text p (latest volume)) image.now) out.old) }
 {
     measure_part(
         image,

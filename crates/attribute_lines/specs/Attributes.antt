@@ -8,31 +8,31 @@ use Rattle.volume.specs.declared.Volume.{Volume}
 use Rattle.volume.specs.declared.Which.{Which}
 use Rattle.records.specs.declared.attribute.Attribute.{Attribute}
 use Rattle.records.specs.declared.attribute.StreamData.{StreamData}
-use Rattle.lists.specs.Lists.{placed, attributesOf}
-use Rattle.streams.specs.Streams.{streamOf}
-use Rattle.links.specs.Link.{contentsOf}
-use Rattle.lines.specs.Shown.{attributeShown}
-use Rattle.lines.specs.Lines.{attributeLine}
-use Rattle.calls.specs.OnVolume.{onVolume}
+use Rattle.lists.specs.Lists.{placed, attributes_of}
+use Rattle.streams.specs.Streams.{stream_of}
+use Rattle.links.specs.Link.{contents_of}
+use Rattle.lines.specs.Shown.{attribute_shown}
+use Rattle.lines.specs.Lines.{attribute_line}
+use Rattle.calls.specs.OnVolume.{on_volume}
 
 -- a line with a stream's contents
-unfoldable pub streamedOf : List ℕ → Volume → Attribute → StreamData → ℕ → Counted (List ℕ)
-streamedOf image v a d s = onto (streamOf image v d.object d.size s) λ c t. after t (got (attributeLine (attributeShown v.reader image a c) []))
+unfoldable pub streamed_of : List ℕ → Volume → Attribute → StreamData → ℕ → Counted (List ℕ)
+streamed_of image v a d s = onto (stream_of image v d.object d.size s) λ c t. after t (got (attribute_line (attribute_shown v.reader image a c) []))
 
-unfoldable pub attributeOf : List ℕ → Volume → Attribute → ℕ → Counted (List ℕ)
-attributeOf image v a s = onto (contentsOf image v a s) λ c t. after t (got (attributeLine (attributeShown v.reader image a c) []))
+unfoldable pub attribute_of : List ℕ → Volume → Attribute → ℕ → Counted (List ℕ)
+attribute_of image v a s = onto (contents_of image v a s) λ c t. after t (got (attribute_line (attribute_shown v.reader image a c) []))
 
-abbrev pub attributeShow : List ℕ → Volume → Option Attribute → ℕ → Counted (List ℕ)
-attributeShow image v none s = after s (got [])
-attributeShow image v (some a) s = attributeOf image v a s
+abbrev pub attribute_show : List ℕ → Volume → Option Attribute → ℕ → Counted (List ℕ)
+attribute_show image v none s = after s (got [])
+attribute_show image v (some a) s = attribute_of image v a s
 
-unfoldable pub attributeOn : List ℕ → Volume → ℕ → ℕ → ℕ → Counted (List ℕ)
-attributeOn image v id place s = onto (placed place (attributesOf image v id s)) λ o t. attributeShow image v o t
+unfoldable pub attribute_on : List ℕ → Volume → ℕ → ℕ → ℕ → Counted (List ℕ)
+attribute_on image v id place s = onto (placed place (attributes_of image v id s)) λ o t. attribute_show image v o t
 
 -- the line of an attribute by its place, with the nodes gone through: document 02, request 06
-unfoldable pub attributeCounted : List ℕ → Which → ℕ → ℕ → Counted (List ℕ)
-attributeCounted image w id place = onVolume (λ v s. attributeOn image v id place s) image w
+unfoldable pub attribute_counted : List ℕ → Which → ℕ → ℕ → Counted (List ℕ)
+attribute_counted image w id place = on_volume (λ v s. attribute_on image v id place s) image w
 
 -- what `apfs_xattr` answers
-abbrev pub attributeText : List ℕ → Which → ℕ → ℕ → Answer (List ℕ)
-attributeText image w id place = (attributeCounted image w id place).answer
+abbrev pub attribute_text : List ℕ → Which → ℕ → ℕ → Answer (List ℕ)
+attribute_text image w id place = (attribute_counted image w id place).answer

@@ -1,13 +1,13 @@
 // The line of an attribute with its contents, by place.
 ghost use Rattle.std.specs.Prelude.{◌≡◌, []};
-ghost use Rattle.records.specs.Attribute.{attributeBytes};
-ghost use Rattle.lines.specs.Shown.{attributeShown};
-ghost use Rattle.lines.specs.Lines.{attributeLine};
-ghost use Rattle.streams.specs.Inner.{streamBytes};
-ghost use Rattle.calls.specs.Filled.{filledAt, filled, calledBy, answered};
-ghost use Rattle.attribute_lines.specs.Attributes.{streamedOf, attributeOf, attributeOn, attributeCounted};
+ghost use Rattle.records.specs.Attribute.{attribute_bytes};
+ghost use Rattle.lines.specs.Shown.{attribute_shown};
+ghost use Rattle.lines.specs.Lines.{attribute_line};
+ghost use Rattle.streams.specs.Inner.{stream_bytes};
+ghost use Rattle.calls.specs.Filled.{filled_at, filled, called_by, answered};
+ghost use Rattle.attribute_lines.specs.Attributes.{streamed_of, attribute_of, attribute_on, attribute_counted};
 
-use bytes::Span;
+use byte_fields::Span;
 use calls::Progress;
 use extents::Ruling;
 use forms::put_streamed;
@@ -21,7 +21,7 @@ use volume::{Volume, VolumeOpening, Which, open_at};
 
 // Measured first: a buffer that is too short is left as it was.
 fn show_embedded(image: &[u8], reader: Reader, a: Attribute, span: Span, out: &mut [u8]) -> Position
-    ensures { filledAt result out.new ≡ filled (attributeLine (attributeShown reader image.now a (attributeBytes reader image.now a.place span)) []) out.old }
+    ensures { filled_at result out.new ≡ filled (attribute_line (attribute_shown reader image.now a (attribute_bytes reader image.now a.place span)) []) out.old }
 {
     let room = out.len();
     match put_attribute_embedded(&mut out[..0], room, Position::At(0), image, reader, a, span) {
@@ -40,7 +40,7 @@ fn show_streamed(
     nodes: u64,
     out: &mut [u8],
 ) -> Position
-    ensures { filledAt result out.new ≡ filled (attributeLine (attributeShown v.reader image.now a (streamBytes image.now v d.object d.size nodes)) []) out.old }
+    ensures { filled_at result out.new ≡ filled (attribute_line (attribute_shown v.reader image.now a (stream_bytes image.now v d.object d.size nodes)) []) out.old }
 {
     let room = out.len();
     match put_streamed(&mut out[..0], room, Position::At(0), image, v, a, d, nodes) {
@@ -58,7 +58,7 @@ fn streamed_of(
     nodes: u64,
     out: &mut [u8],
 ) -> Progress
-    ensures { calledBy result out.new ≡ answered (streamedOf image.now v a d nodes) out.old }
+    ensures { called_by result out.new ≡ answered (streamed_of image.now v a d nodes) out.old }
 {
     let settled = settle_stream(image, v, d.object, d.size, nodes);
     let ruling = settled.ruling;
@@ -75,7 +75,7 @@ fn streamed_of(
 }
 
 fn attribute_of(image: &[u8], v: Volume, a: Attribute, nodes: u64, out: &mut [u8]) -> Progress
-    ensures { calledBy result out.new ≡ answered (attributeOf image.now v a nodes) out.old }
+    ensures { called_by result out.new ≡ answered (attribute_of image.now v a nodes) out.old }
 {
     let reader = v.reader;
     let contents = a.contents;
@@ -96,7 +96,7 @@ fn attribute_on(
     nodes: u64,
     out: &mut [u8],
 ) -> Progress
-    ensures { calledBy result out.new ≡ answered (attributeOn image.now v id place nodes) out.old }
+    ensures { called_by result out.new ≡ answered (attribute_on image.now v id place nodes) out.old }
 {
     let found = attribute_at(image, v, id, place, nodes);
     let attribute = found.attribute;
@@ -114,7 +114,7 @@ fn attribute_on(
 }
 
 pub fn attribute_text(image: &[u8], which: Which, id: u64, place: u64, out: &mut [u8]) -> Progress
-    ensures { calledBy result out.new ≡ answered (attributeCounted image.now which id place) out.old }
+    ensures { called_by result out.new ≡ answered (attribute_counted image.now which id place) out.old }
 {
     let opened = open_at(image, which);
     let volume = opened.volume;

@@ -14,18 +14,18 @@ abbrev pub size : Run → ℕ
 size r = length (places r)
 
 -- the k-th record is the list's k-th, and past the list the run ends as it ends
-pub nth-place : (k : ℕ) (r : Run) (d : Place) → k < size r → nth k r ≡ after (get_or (counts r) k 0) (got (some (get_or (places r) k d)))
+pub nth_place : (k : ℕ) (r : Run) (d : Place) → k < size r → nth k r ≡ after (get_or (counts r) k 0) (got (some (get_or (places r) k d)))
 unfolding nth places counts
-nth-place zero (more p s r) d h = refl
-nth-place (suc k) (more p s r) d h = nth-place k r d (omega arith)
-nth-place k (end s) d h = absurd (omega arith)
-nth-place k (refused e s) d h = absurd (omega arith)
+nth_place zero (more p s r) d h = refl
+nth_place (suc k) (more p s r) d h = nth_place k r d (omega arith)
+nth_place k (end s) d h = absurd (omega arith)
+nth_place k (refused e s) d h = absurd (omega arith)
 
-pub nth-over : (k : ℕ) (r : Run) → size r ≤ k → nth k r ≡ ending r
+pub nth_over : (k : ℕ) (r : Run) → size r ≤ k → nth k r ≡ ending r
 unfolding nth places ending
-nth-over zero (more p s r) h = absurd (omega arith)
-nth-over (suc k) (more p s r) h = nth-over k r (omega arith)
-nth-over zero (end s) h = refl
-nth-over (suc k) (end s) h = refl
-nth-over zero (refused e s) h = refl
-nth-over (suc k) (refused e s) h = refl
+nth_over zero (more p s r) h = absurd (omega arith)
+nth_over (suc k) (more p s r) h = nth_over k r (omega arith)
+nth_over zero (end s) h = refl
+nth_over (suc k) (end s) h = refl
+nth_over zero (refused e s) h = refl
+nth_over (suc k) (refused e s) h = refl

@@ -11,15 +11,15 @@ use Rattle.node.specs.declared.layout.Node.{Node}
 use Rattle.node.specs.declared.layout.Info.{Info}
 use Rattle.node.specs.declared.layout.Parsed.{Parsed}
 use Rattle.node.specs.declared.layout.Parsed.TheVariants as parsed
-use Rattle.node.specs.Entry.{childAt}
+use Rattle.node.specs.Entry.{child_at}
 use Rattle.lookup.specs.Path.{Through, at_once, by, on, and_then, counted}
 use Rattle.lookup.specs.Counted.{Counted, after}
-use Rattle.lookup.specs.Read.{nodeAt}
+use Rattle.lookup.specs.Read.{node_at}
 use Rattle.lookup.specs.Map.{resolve}
-use Rattle.lookup.proofs.Theorems.{read-block}
-use Rattle.btree.specs.Entries.{bytes_of, Act, into, intoTold, enteringTold, childNode, enterAt}
+use Rattle.lookup.proofs.Theorems.{read_block}
+use Rattle.btree.specs.Entries.{bytes_of, Act, into, into_told, entering_told, child_node, enter_at}
 use Rattle.btree.specs.Scan.{Run, Tail}
-use Rattle.btree.specs.Inner.{act, acting, each, seekIn, seekAt, seekThen, turn_of, turnThen, Reaches, kinded, staysAt}
+use Rattle.btree.specs.Inner.{act, acting, each, seek_in, seek_at, seek_then, turn_of, turn_then, Reaches, kinded, stays_at}
 use Rattle.btree.specs.declared.entries.Search.{Search}
 use Rattle.btree.specs.declared.entries.Entering.{Entering}
 use Rattle.btree.specs.declared.seek.Seek.{Seek}
@@ -27,60 +27,60 @@ use Rattle.btree.specs.declared.seek.Seek.TheVariants as seek
 use Rattle.btree.specs.declared.seek.Turn.{Turn}
 use Rattle.btree.specs.declared.seek.Turn.TheVariants as turn
 use Rattle.btree.specs.declared.seek.Turned.{Turned}
-use Rattle.btree.proofs.Higher.{seek-up}
-use Rattle.btree.proofs.Seeking.{each-seek, seek-bound}
+use Rattle.btree.proofs.Higher.{seek_up}
+use Rattle.btree.proofs.Seeking.{each_seek, seek_bound}
 
 -- a child that was gone into was read from its block
 module _ (b : List ℕ) (q : Search) (c : Node) where
-  read_known : (p : ℕ) (x : Answer Node) → nodeAt q.keys.reader b p ≡ x → (on x λ d. by p (at_once (got (into d)))).answer ≡ got (into c) → nodeAt q.keys.reader b c.block ≡ got c
+  read_known : (p : ℕ) (x : Answer Node) → node_at q.keys.reader b p ≡ x → (on x λ d. by p (at_once (got (into d)))).answer ≡ got (into c) → node_at q.keys.reader b c.block ≡ got c
   read_known p (got d) g h =
       let k : d ≡ c = cc in
-      let l : c.block ≡ p = ap (λ (n : Node). n.block) (sym k) ∙ read-block q.keys.reader b p d g in
-      ap (nodeAt q.keys.reader b) l ∙ (g ∙ ap got k)
+      let l : c.block ≡ p = ap (λ (n : Node). n.block) (sym k) ∙ read_block q.keys.reader b p d g in
+      ap (node_at q.keys.reader b) l ∙ (g ∙ ap got k)
   read_known p (no w) g h = absurd (let z : ◌≡◌ {A = ℕ} 0 1 = cc in omega arith)
 
-  named-known : (a : Answer ℕ) → (on a λ p. on (nodeAt q.keys.reader b p) λ d. by p (at_once (got (into d)))).answer ≡ got (into c) → nodeAt q.keys.reader b c.block ≡ got c
-  named-known (got p) h = read_known p (nodeAt q.keys.reader b p) refl h
-  named-known (no w) h = absurd (let z : ◌≡◌ {A = ℕ} 0 1 = cc in omega arith)
+  named_known : (a : Answer ℕ) → (on a λ p. on (node_at q.keys.reader b p) λ d. by p (at_once (got (into d)))).answer ≡ got (into c) → node_at q.keys.reader b c.block ≡ got c
+  named_known (got p) h = read_known p (node_at q.keys.reader b p) refl h
+  named_known (no w) h = absurd (let z : ◌≡◌ {A = ℕ} 0 1 = cc in omega arith)
 
-  pub child-known : (a : Answer ℕ) → (on a (childNode b q)).answer ≡ got (into c) → nodeAt q.keys.reader b c.block ≡ got c
-  unfolding childNode and_then
-  child-known (got x) h = named-known (resolve q.keys.reader b q.resolve x).answer h
-  child-known (no w) h = absurd (let z : ◌≡◌ {A = ℕ} 0 1 = cc in omega arith)
+  pub child_known : (a : Answer ℕ) → (on a (child_node b q)).answer ≡ got (into c) → node_at q.keys.reader b c.block ≡ got c
+  unfolding child_node and_then
+  child_known (got x) h = named_known (resolve q.keys.reader b q.resolve x).answer h
+  child_known (no w) h = absurd (let z : ◌≡◌ {A = ℕ} 0 1 = cc in omega arith)
 
-  enter-known : (m : Node) (i s : ℕ) (e : Entering) → enteringTold e ≡ counted s (enterAt b q m i) → turn_of e.node ≡ turn.Into c → nodeAt q.keys.reader b c.block ≡ got c
-  unfolding enterAt counted
-  enter-known m i s e t h = child-known (childAt (bytes_of b q m) m q.keys.info i) (sym (ap (λ (x : Counted Act). x.answer) t) ∙ of e.node h)
+  enter_known : (m : Node) (i s : ℕ) (e : Entering) → entering_told e ≡ counted s (enter_at b q m i) → turn_of e.node ≡ turn.Into c → node_at q.keys.reader b c.block ≡ got c
+  unfolding enter_at counted
+  enter_known m i s e t h = child_known (child_at (bytes_of b q m) m q.keys.info i) (sym (ap (λ (x : Counted Act). x.answer) t) ∙ of e.node h)
     where
-      of : (x : Parsed) → turn_of x ≡ turn.Into c → intoTold x ≡ got (into c)
+      of : (x : Parsed) → turn_of x ≡ turn.Into c → into_told x ≡ got (into c)
       of (parsed.Got d) g = let k : d ≡ c = cc in ap (λ (n : Node). got (into n)) k
       of (parsed.No w) g = absurd (let z : ◌≡◌ {A = ℕ} 0 1 = cc in omega arith)
 
-pub sought-low : (b : List ℕ) (q : Search) (m : Node) (i j : ℕ) (z : Seek) → z ≡ seekAt b q m i → z ≡ seek.At j → j < m.nkeys
-sought-low b q m i j z t e = (seek-bound (bytes_of b q m) m q.keys.info q.keys.id q.keys.kind i j (sym t ∙ e)).1
+pub sought_low : (b : List ℕ) (q : Search) (m : Node) (i j : ℕ) (z : Seek) → z ≡ seek_at b q m i → z ≡ seek.At j → j < m.nkeys
+sought_low b q m i j z t e = (seek_bound (bytes_of b q m) m q.keys.info q.keys.id q.keys.kind i j (sym t ∙ e)).1
 
-module _ (b : List ℕ) (q : Search) (m : Node) (i s : ℕ) (z : Seek) (t : z ≡ seekAt b q m i) (r : Turned) where
-  came : (x : Seek) (f : Node → Tail → Tail) (k : Tail) → z ≡ x → seekThen f b q m x k s ≡ each f b q m (m.nkeys - i) i k s
-  came x f k e = (rw (← e, t)) ∙ sym (each-seek f b q m k s i)
+module _ (b : List ℕ) (q : Search) (m : Node) (i s : ℕ) (z : Seek) (t : z ≡ seek_at b q m i) (r : Turned) where
+  came : (x : Seek) (f : Node → Tail → Tail) (k : Tail) → z ≡ x → seek_then f b q m x k s ≡ each f b q m (m.nkeys - i) i k s
+  came x f k e = (rw (← e, t)) ∙ sym (each_seek f b q m k s i)
 
-  pub reach-over : z ≡ seek.Over → r ≡ record { turn = turn.Over; next = i; nodes = s } → Reaches b q m i s r
-  reach-over e h = record {
+  pub reach_over : z ≡ seek.Over → r ≡ record { turn = turn.Over; next = i; nodes = s } → Reaches b q m i s r
+  reach_over e h = record {
     course = λ f k. rw h (came seek.Over f k e);
     behind = λ c g. absurd (let y : ◌≡◌ {A = ℕ} 0 1 = cc in omega arith);
     known = λ c g. absurd (let y : ◌≡◌ {A = ℕ} 0 1 = cc in omega arith);
     higher = λ c g. absurd (let y : ◌≡◌ {A = ℕ} 0 1 = cc in omega arith);
   }
 
-  pub reach-stop : z ≡ seek.Stop → r ≡ record { turn = turn.Stop; next = i; nodes = s } → Reaches b q m i s r
-  reach-stop e h = record {
+  pub reach_stop : z ≡ seek.Stop → r ≡ record { turn = turn.Stop; next = i; nodes = s } → Reaches b q m i s r
+  reach_stop e h = record {
     course = λ f k. rw h (came seek.Stop f k e);
     behind = λ c g. absurd (let y : ◌≡◌ {A = ℕ} 0 1 = cc in omega arith);
     known = λ c g. absurd (let y : ◌≡◌ {A = ℕ} 0 1 = cc in omega arith);
     higher = λ c g. absurd (let y : ◌≡◌ {A = ℕ} 0 1 = cc in omega arith);
   }
 
-  pub reach-no : (w : Refusal) → z ≡ seek.No w → r ≡ record { turn = turn.No w; next = i; nodes = s } → Reaches b q m i s r
-  reach-no w e h = record {
+  pub reach_no : (w : Refusal) → z ≡ seek.No w → r ≡ record { turn = turn.No w; next = i; nodes = s } → Reaches b q m i s r
+  reach_no w e h = record {
     course = λ f k. rw h (came (seek.No w) f k e);
     behind = λ c g. absurd (let y : ◌≡◌ {A = ℕ} 0 1 = cc in omega arith);
     known = λ c g. absurd (let y : ◌≡◌ {A = ℕ} 0 1 = cc in omega arith);
@@ -88,36 +88,36 @@ module _ (b : List ℕ) (q : Search) (m : Node) (i s : ℕ) (z : Seek) (t : z �
   }
 
   module _ (j : ℕ) (e : z ≡ seek.At j) where
-    pub reach-into : (d : Entering) → enteringTold d ≡ counted s (enterAt b q m j) → r ≡ record { turn = turn_of d.node; next = j + 1; nodes = d.nodes } → Reaches b q m i s r
-    unfolding act enterAt childNode
-    reach-into d g h = record {
+    pub reach_into : (d : Entering) → entering_told d ≡ counted s (enter_at b q m j) → r ≡ record { turn = turn_of d.node; next = j + 1; nodes = d.nodes } → Reaches b q m i s r
+    unfolding act enter_at child_node
+    reach_into d g h = record {
       course = λ f k. (rw h (of f k d.node)) ∙ (ap (λ (x : Counted Act). act f x (each f b q m (m.nkeys - (j + 1)) (j + 1) k)) g ∙ came (seek.At j) f k e);
-      behind = λ c n. let low = seek-bound (bytes_of b q m) m q.keys.info q.keys.id q.keys.kind i j (sym t ∙ e) in rw h (omega (arith, low), omega (arith, low));
-      known = λ c n. enter-known b q c m j s d g (sym (ap (λ (x : Turned). x.turn) h) ∙ n);
+      behind = λ c n. let low = seek_bound (bytes_of b q m) m q.keys.info q.keys.id q.keys.kind i j (sym t ∙ e) in rw h (omega (arith, low), omega (arith, low));
+      known = λ c n. enter_known b q c m j s d g (sym (ap (λ (x : Turned). x.turn) h) ∙ n);
       higher = λ c n x lt y f k.
           let l : turn_of d.node ≡ turn.Into c = sym (ap (λ (u : Turned). u.turn) h) ∙ n in
-          let w : staysAt b (kinded q x) m (j + 1) ≡ true = ap (λ (u : Turned). staysAt b (kinded q x) m u.next) (sym h) ∙ y in
-          rw h (goes-up x lt w f k c l);
+          let w : stays_at b (kinded q x) m (j + 1) ≡ true = ap (λ (u : Turned). stays_at b (kinded q x) m u.next) (sym h) ∙ y in
+          rw h (goes_up x lt w f k c l);
     }
       where
         told : (y : Parsed) (c : Node) → turn_of y ≡ turn.Into c → y ≡ parsed.Got c
         told (parsed.Got x) c l = let v : x ≡ c = cc in ap parsed.Got v
         told (parsed.No w) c l = absurd (let v : ◌≡◌ {A = ℕ} 0 1 = cc in omega arith)
 
-        goes-up : (x : ℕ) → q.keys.kind < x → staysAt b (kinded q x) m (j + 1) ≡ true → (f : Node → Tail → Tail) (k : Tail) (c : Node) → turn_of d.node ≡ turn.Into c →
+        goes_up : (x : ℕ) → q.keys.kind < x → stays_at b (kinded q x) m (j + 1) ≡ true → (f : Node → Tail → Tail) (k : Tail) (c : Node) → turn_of d.node ≡ turn.Into c →
             f c (each f b (kinded q x) m (m.nkeys - (j + 1)) (j + 1) k) d.nodes ≡ each f b (kinded q x) m (m.nkeys - i) i k s
-        goes-up x lt w f k c l =
-            let u : f c (each f b (kinded q x) m (m.nkeys - (j + 1)) (j + 1) k) d.nodes ≡ act f (enteringTold d) (each f b (kinded q x) m (m.nkeys - (j + 1)) (j + 1) k) = rw (told d.node c l) in
+        goes_up x lt w f k c l =
+            let u : f c (each f b (kinded q x) m (m.nkeys - (j + 1)) (j + 1) k) d.nodes ≡ act f (entering_told d) (each f b (kinded q x) m (m.nkeys - (j + 1)) (j + 1) k) = rw (told d.node c l) in
             u ∙ (ap (λ (y : Counted Act). act f y (each f b (kinded q x) m (m.nkeys - (j + 1)) (j + 1) k)) g
-            ∙ (ap (λ (y : Seek). seekThen f b (kinded q x) m y k s) (sym (seek-up b q m x lt i j w (sym t ∙ e))) ∙ sym (each-seek f b (kinded q x) m k s i)))
+            ∙ (ap (λ (y : Seek). seek_then f b (kinded q x) m y k s) (sym (seek_up b q m x lt i j w (sym t ∙ e))) ∙ sym (each_seek f b (kinded q x) m k s i)))
 
         of : (f : Node → Tail → Tail) (k : Tail) (x : Parsed) →
-            turnThen f b q m (turn_of x) (j + 1) k d.nodes ≡ acting f (intoTold x) (each f b q m (m.nkeys - (j + 1)) (j + 1) k) d.nodes
+            turn_then f b q m (turn_of x) (j + 1) k d.nodes ≡ acting f (into_told x) (each f b q m (m.nkeys - (j + 1)) (j + 1) k) d.nodes
         of f k (parsed.Got c) = refl
         of f k (parsed.No w) = refl
 
 -- where the block was read as a list u that is v
-pub seek-of : (u v : List ℕ) (m : Node) (info : Info) (id kind n i : ℕ) (z : Seek) → u ≡ v → z ≡ seekIn u m info id kind n i → z ≡ seekIn v m info id kind n i
-seek-of u v m info id kind n i z e h = rw e at h
+pub seek_of : (u v : List ℕ) (m : Node) (info : Info) (id kind n i : ℕ) (z : Seek) → u ≡ v → z ≡ seek_in u m info id kind n i → z ≡ seek_in v m info id kind n i
+seek_of u v m info id kind n i z e h = rw e at h
 
-pub ruleset reaching = (rules, reach-over, reach-stop, reach-no, reach-into)
+pub ruleset reaching = (rules, reach_over, reach_stop, reach_no, reach_into)

@@ -1,10 +1,10 @@
 -- What a scan does at one entry of a node. Document 01, btree.rs, `scan`; Apple File System Reference, "File-System Objects", j_key_t.
 use Rattle.std.specs.Prelude.{ℕ, ◌+◌, ◌/◌, ◌%◌, ◌^◌, List}
-use Rattle.error.specs.Answer.{Answer, got, no, ◌>>=◌, ifLe, ifEq}
-use Rattle.bytes.specs.Number.{number_at}
-use Rattle.bytes.specs.Part.{part_of}
+use Rattle.error.specs.Answer.{Answer, got, no, ◌>>=◌, if_le, if_eq}
+use Rattle.byte_fields.specs.Number.{number_at}
+use Rattle.byte_fields.specs.Part.{part_of}
 use Rattle.obj.specs.Block.{block_of}
-use Rattle.node.specs.Entry.{keyValueAt, childAt}
+use Rattle.node.specs.Entry.{key_value_at, child_at}
 use Rattle.node.specs.Place.{place_of}
 use Rattle.node.specs.declared.layout.Node.{Node}
 use Rattle.node.specs.declared.layout.Info.{Info}
@@ -15,7 +15,7 @@ use Rattle.node.specs.declared.table.Value.{Value}
 use Rattle.node.specs.declared.table.Value.TheVariants as value
 use Rattle.lookup.specs.Counted.{Counted, after}
 use Rattle.lookup.specs.Path.{Through, at_once, by, on, and_then}
-use Rattle.lookup.specs.Read.{nodeAt}
+use Rattle.lookup.specs.Read.{node_at}
 use Rattle.lookup.specs.Map.{resolve}
 use Rattle.btree.specs.declared.entries.Search.{Search}
 use Rattle.node.specs.declared.place.Place.{Place}
@@ -31,23 +31,23 @@ use Rattle.btree.specs.declared.entries.Entering.{Entering}
 abbrev pub bytes_of : List ℕ → Search → Node → List ℕ
 bytes_of b q m = block_of q.keys.reader b m.block
 
-abbrev pub orderTold : Ordered → Answer Order
-orderTold (ordered.Got o) = got o
-orderTold (ordered.No e) = no e
+abbrev pub order_told : Ordered → Answer Order
+order_told (ordered.Got o) = got o
+order_told (ordered.No e) = no e
 
 -- a key begins with a number of 64 bits, h: the id in the low 60, the kind in the high 4; the id is compared first (fs.rs, `records`)
 unfoldable pub order_of : ℕ → ℕ → ℕ → Order
 order_of id kind h =
-    ifEq (h % 2 ^ 60) id
-    (ifEq (h / 2 ^ 60) kind Inside (ifLe (h / 2 ^ 60) kind Below Above))
-    (ifLe (h % 2 ^ 60) id Below Above)
+    if_eq (h % 2 ^ 60) id
+    (if_eq (h / 2 ^ 60) kind Inside (if_le (h / 2 ^ 60) kind Below Above))
+    (if_le (h % 2 ^ 60) id Below Above)
 
-unfoldable pub keyOrder : ℕ → ℕ → List ℕ → Answer Order
-keyOrder id kind key = number_at 8 key 0 >>= λ h. got (order_of id kind h)
+unfoldable pub key_order : ℕ → ℕ → List ℕ → Answer Order
+key_order id kind key = number_at 8 key 0 >>= λ h. got (order_of id kind h)
 
 -- how the i-th entry of a node in the block b stands to an id and a kind (btree.rs, `window`)
 unfoldable pub order_in : List ℕ → Node → Info → ℕ → ℕ → ℕ → Answer Order
-order_in b m info id kind i = keyValueAt b m info i >>= λ e. keyOrder id kind (part_of b e.key)
+order_in b m info id kind i = key_value_at b m info i >>= λ e. key_order id kind (part_of b e.key)
 
 abbrev pub order_at : List ℕ → Search → Node → ℕ → Answer Order
 order_at b q m i = order_in (bytes_of b q m) m q.keys.info q.keys.id q.keys.kind i
@@ -59,33 +59,33 @@ by_order Above x y z = z
 
 -- what an entry of a leaf gives: it is passed over, ends the scan, or is a record (btree.rs, `scan_node`)
 pub data Leaf : Type 0 where
-  passOver : Leaf
-  endScan : Leaf
-  recordAt : Place → Leaf
+  pass_over : Leaf
+  end_scan : Leaf
+  record_at : Place → Leaf
 
-abbrev pub itemTold : Item → Answer Leaf
-itemTold item.Pass = got passOver
-itemTold item.Stop = got endScan
-itemTold (item.At p) = got (recordAt p)
-itemTold (item.No e) = no e
+abbrev pub item_told : Item → Answer Leaf
+item_told item.Pass = got pass_over
+item_told item.Stop = got end_scan
+item_told (item.At p) = got (record_at p)
+item_told (item.No e) = no e
 
 -- document 01, btree.rs: "Value offset 0xffff means no value; `scan` skips it"
 abbrev pub valued : Value → Place → Leaf
-valued (value.At v) p = recordAt p
-valued value.Missing p = passOver
+valued (value.At v) p = record_at p
+valued value.Missing p = pass_over
 
-unfoldable pub recordOf : Node → KeyValue → Leaf
-recordOf m e = valued e.value (place_of m.block e)
+unfoldable pub record_of : Node → KeyValue → Leaf
+record_of m e = valued e.value (place_of m.block e)
 
 -- the i-th entry of a leaf in the block b, read with its value
-unfoldable pub itemIn : List ℕ → Node → Info → ℕ → ℕ → ℕ → Answer Leaf
-itemIn b m info id kind i =
-    keyValueAt b m info i >>= λ e.
-    keyOrder id kind (part_of b e.key) >>= λ o.
-    by_order o (got passOver) (got (recordOf m e)) (got endScan)
+unfoldable pub item_in : List ℕ → Node → Info → ℕ → ℕ → ℕ → Answer Leaf
+item_in b m info id kind i =
+    key_value_at b m info i >>= λ e.
+    key_order id kind (part_of b e.key) >>= λ o.
+    by_order o (got pass_over) (got (record_of m e)) (got end_scan)
 
 abbrev pub item_at : List ℕ → Search → Node → ℕ → Answer Leaf
-item_at b q m i = itemIn (bytes_of b q m) m q.keys.info q.keys.id q.keys.kind i
+item_at b q m i = item_in (bytes_of b q m) m q.keys.info q.keys.id q.keys.kind i
 
 -- what a scan does at an entry of an index node (btree.rs, `scan_node`)
 pub data Act : Type 0 where
@@ -93,30 +93,30 @@ pub data Act : Type 0 where
   skip : Act
   into : Node → Act
 
-abbrev pub intoTold : Parsed → Answer Act
-intoTold (parsed.Got m) = got (into m)
-intoTold (parsed.No e) = no e
+abbrev pub into_told : Parsed → Answer Act
+into_told (parsed.Got m) = got (into m)
+into_told (parsed.No e) = no e
 
-abbrev pub enteringTold : Entering → Counted Act
-enteringTold t = after t.nodes (intoTold t.node)
+abbrev pub entering_told : Entering → Counted Act
+entering_told t = after t.nodes (into_told t.node)
 
 -- the node of a child: its name may be looked up in an object map, and it is gone through once its block has passed as a node (btree.rs, `read_child`)
-unfoldable pub childNode : List ℕ → Search → ℕ → Through Act
-childNode b q child =
+unfoldable pub child_node : List ℕ → Search → ℕ → Through Act
+child_node b q child =
     and_then (resolve q.keys.reader b q.resolve child) λ p.
-    on (nodeAt q.keys.reader b p) λ c.
+    on (node_at q.keys.reader b p) λ c.
     by p (at_once (got (into c)))
 
 -- the child of the i-th entry
-unfoldable pub enterAt : List ℕ → Search → Node → ℕ → Through Act
-enterAt b q m i = on (childAt (bytes_of b q m) m q.keys.info i) (childNode b q)
+unfoldable pub enter_at : List ℕ → Search → Node → ℕ → Through Act
+enter_at b q m i = on (child_at (bytes_of b q m) m q.keys.info i) (child_node b q)
 
 -- an entry whose next is still below is skipped, any other's child is entered: the next is read before the child (btree.rs, `scan_node`)
-unfoldable pub followAt : List ℕ → Search → Node → ℕ → Through Act
-followAt b q m i =
-    ifLe m.nkeys (i + 1) (enterAt b q m i)
-    (on (order_at b q m (i + 1)) λ o. by_order o (at_once (got skip)) (enterAt b q m i) (enterAt b q m i))
+unfoldable pub follow_at : List ℕ → Search → Node → ℕ → Through Act
+follow_at b q m i =
+    if_le m.nkeys (i + 1) (enter_at b q m i)
+    (on (order_at b q m (i + 1)) λ o. by_order o (at_once (got skip)) (enter_at b q m i) (enter_at b q m i))
 
 -- the i-th entry of an index node; one above ends the scan
-unfoldable pub turnAt : List ℕ → Search → Node → ℕ → Through Act
-turnAt b q m i = on (order_at b q m i) λ o. by_order o (followAt b q m i) (followAt b q m i) (at_once (got stop))
+unfoldable pub turn_at : List ℕ → Search → Node → ℕ → Through Act
+turn_at b q m i = on (order_at b q m i) λ o. by_order o (follow_at b q m i) (follow_at b q m i) (at_once (got stop))

@@ -1,19 +1,19 @@
 -- The scan as the code's loops go: a buyer may pass over this file. A definition takes what follows it, k, by the count so far.
--- `walk` of a root is proved to be `countedPart` of its `nodePart` (proofs/Parts.antt); the rest is what is left of a loop.
+-- `walk` of a root is proved to be `counted_part` of its `node_part` (proofs/Parts.antt); the rest is what is left of a loop.
 use Rattle.std.specs.Prelude.{ℕ, zero, suc, ◌+◌, ◌-◌, ◌≤◌, ◌<◌, ◌≡◌, List, Bool, true, false}
 use Rattle.std.proofs.Math.Option.{Option, none, some}
-use Rattle.error.specs.Answer.{Answer, got, no, ifLe, ifEq}
+use Rattle.error.specs.Answer.{Answer, got, no, if_le, if_eq}
 use Rattle.error.specs.declared.Refusal.TheVariants.{Corrupt}
 use Rattle.obj.specs.Block.{block_of}
-use Rattle.node.specs.Node.{leafBit}
+use Rattle.node.specs.Node.{leaf_bit}
 use Rattle.node.specs.declared.layout.Node.{Node}
 use Rattle.node.specs.declared.layout.Info.{Info}
 use Rattle.node.specs.declared.layout.Parsed.{Parsed}
 use Rattle.node.specs.declared.layout.Parsed.TheVariants as parsed
 use Rattle.lookup.specs.Counted.{Counted, after}
 use Rattle.lookup.specs.Path.{counted}
-use Rattle.lookup.specs.Read.{nodeAt}
-use Rattle.btree.specs.Entries.{bytes_of, order_in, order_at, Leaf, passOver, endScan, recordAt, itemIn, item_at, Act, stop, skip, into, enterAt, turnAt}
+use Rattle.lookup.specs.Read.{node_at}
+use Rattle.btree.specs.Entries.{bytes_of, order_in, order_at, Leaf, pass_over, end_scan, record_at, item_in, item_at, Act, stop, skip, into, enter_at, turn_at}
 use Rattle.btree.specs.Scan.{Run, more, end, refused, Tail, nth}
 use Rattle.btree.specs.declared.entries.Keys.{Keys}
 use Rattle.btree.specs.declared.entries.Search.{Search}
@@ -34,40 +34,40 @@ use Rattle.btree.specs.declared.skip.Pass.TheVariants.{At, Left, End, No}
 use Rattle.btree.specs.declared.skip.Passed.{Passed}
 
 -- what an entry of a leaf gives, where k follows
-unfoldable pub leafThen : Answer Leaf → ℕ → Run → Run
-leafThen (got passOver) s k = k
-leafThen (got endScan) s k = end s
-leafThen (got (recordAt p)) s k = more p s k
-leafThen (no e) s k = refused e s
+unfoldable pub leaf_then : Answer Leaf → ℕ → Run → Run
+leaf_then (got pass_over) s k = k
+leaf_then (got end_scan) s k = end s
+leaf_then (got (record_at p)) s k = more p s k
+leaf_then (no e) s k = refused e s
 
 -- n entries of a leaf from the i-th on (btree.rs, `scan_node`)
-unfoldable pub leafFrom : List ℕ → Search → Node → ℕ → ℕ → ℕ → Run → Run
-leafFrom b q m zero i s k = k
-leafFrom b q m (suc n) i s k = leafThen (item_at b q m i) s (leafFrom b q m n (i + 1) s k)
+unfoldable pub leaf_from : List ℕ → Search → Node → ℕ → ℕ → ℕ → Run → Run
+leaf_from b q m zero i s k = k
+leaf_from b q m (suc n) i s k = leaf_then (item_at b q m i) s (leaf_from b q m n (i + 1) s k)
 
 -- the first record of n entries of a leaf in the block b, from the i-th on, and the entry after it
-abbrev pub itemThen : Answer Leaf → ℕ → InLeaf → InLeaf
-itemThen (got passOver) i k = k
-itemThen (got endScan) i k = leaf.End
-itemThen (got (recordAt p)) i k = leaf.At p i
-itemThen (no e) i k = leaf.No e
+abbrev pub item_then : Answer Leaf → ℕ → InLeaf → InLeaf
+item_then (got pass_over) i k = k
+item_then (got end_scan) i k = leaf.End
+item_then (got (record_at p)) i k = leaf.At p i
+item_then (no e) i k = leaf.No e
 
-unfoldable pub inLeaf : List ℕ → Node → Info → ℕ → ℕ → ℕ → ℕ → InLeaf
-inLeaf b m info id kind zero i = leaf.Passed
-inLeaf b m info id kind (suc n) i = itemThen (itemIn b m info id kind i) (i + 1) (inLeaf b m info id kind n (i + 1))
+unfoldable pub in_leaf : List ℕ → Node → Info → ℕ → ℕ → ℕ → ℕ → InLeaf
+in_leaf b m info id kind zero i = leaf.Passed
+in_leaf b m info id kind (suc n) i = item_then (item_in b m info id kind i) (i + 1) (in_leaf b m info id kind n (i + 1))
 
-abbrev pub inKeyed : List ℕ → Keys → Node → ℕ → InLeaf
-inKeyed b k m i = inLeaf (block_of k.reader b m.block) m k.info k.id k.kind (m.nkeys - i) i
+abbrev pub in_keyed : List ℕ → Keys → Node → ℕ → InLeaf
+in_keyed b k m i = in_leaf (block_of k.reader b m.block) m k.info k.id k.kind (m.nkeys - i) i
 
-abbrev pub inNode : List ℕ → Search → Node → ℕ → InLeaf
-inNode b q m i = inKeyed b q.keys m i
+abbrev pub in_node : List ℕ → Search → Node → ℕ → InLeaf
+in_node b q m i = in_keyed b q.keys m i
 
--- what such a record stands for, where k follows the leaf: `leafFrom` (`leaf-in`, proofs/Leaves.antt)
-abbrev pub inThen : List ℕ → Search → Node → InLeaf → ℕ → Run → Run
-inThen b q m (leaf.At p a) s k = more p s (leafFrom b q m (m.nkeys - a) a s k)
-inThen b q m leaf.Passed s k = k
-inThen b q m leaf.End s k = end s
-inThen b q m (leaf.No e) s k = refused e s
+-- what such a record stands for, where k follows the leaf: `leaf_from` (`leaf_in`, proofs/Leaves.antt)
+abbrev pub in_then : List ℕ → Search → Node → InLeaf → ℕ → Run → Run
+in_then b q m (leaf.At p a) s k = more p s (leaf_from b q m (m.nkeys - a) a s k)
+in_then b q m leaf.Passed s k = k
+in_then b q m leaf.End s k = end s
+in_then b q m (leaf.No e) s k = refused e s
 
 abbrev pub acting : (Node → Tail → Tail) → Answer Act → Tail → Tail
 acting f (got stop) k = end
@@ -82,93 +82,93 @@ act f c k = acting f c.answer k c.nodes
 -- n entries of an index node from the i-th on (btree.rs, `scan_node`)
 unfoldable pub each : (Node → Tail → Tail) → List ℕ → Search → Node → ℕ → ℕ → Tail → Tail
 each f b q m zero i k = k
-each f b q m (suc n) i k = λ s. act f (counted s (turnAt b q m i)) (each f b q m n (i + 1) k)
+each f b q m (suc n) i k = λ s. act f (counted s (turn_at b q m i)) (each f b q m n (i + 1) k)
 
 -- the entry that is gone into, of n entries of an index node in the block b from the i-th on: one is skipped where it is not above and
 -- its next is below
-abbrev pub nextThen : Answer Order → ℕ → Seek → Seek
-nextThen (got Below) i k = k
-nextThen (got Inside) i k = seek.At i
-nextThen (got Above) i k = seek.At i
-nextThen (no e) i k = seek.No e
+abbrev pub next_then : Answer Order → ℕ → Seek → Seek
+next_then (got Below) i k = k
+next_then (got Inside) i k = seek.At i
+next_then (got Above) i k = seek.At i
+next_then (no e) i k = seek.No e
 
 -- n entries come after the i-th
-abbrev pub followThen : ℕ → Answer Order → ℕ → Seek → Seek
-followThen zero a i k = seek.At i
-followThen (suc n) a i k = nextThen a i k
+abbrev pub follow_then : ℕ → Answer Order → ℕ → Seek → Seek
+follow_then zero a i k = seek.At i
+follow_then (suc n) a i k = next_then a i k
 
-abbrev pub hereThen : Answer Order → Seek → Seek
-hereThen (got Below) k = k
-hereThen (got Inside) k = k
-hereThen (got Above) k = seek.Stop
-hereThen (no e) k = seek.No e
+abbrev pub here_then : Answer Order → Seek → Seek
+here_then (got Below) k = k
+here_then (got Inside) k = k
+here_then (got Above) k = seek.Stop
+here_then (no e) k = seek.No e
 
-unfoldable pub seekIn : List ℕ → Node → Info → ℕ → ℕ → ℕ → ℕ → Seek
-seekIn b m info id kind zero i = seek.Over
-seekIn b m info id kind (suc n) i =
-    hereThen (order_in b m info id kind i)
-    (followThen n (order_in b m info id kind (i + 1)) i (seekIn b m info id kind n (i + 1)))
+unfoldable pub seek_in : List ℕ → Node → Info → ℕ → ℕ → ℕ → ℕ → Seek
+seek_in b m info id kind zero i = seek.Over
+seek_in b m info id kind (suc n) i =
+    here_then (order_in b m info id kind i)
+    (follow_then n (order_in b m info id kind (i + 1)) i (seek_in b m info id kind n (i + 1)))
 
-abbrev pub seekAt : List ℕ → Search → Node → ℕ → Seek
-seekAt b q m i = seekIn (bytes_of b q m) m q.keys.info q.keys.id q.keys.kind (m.nkeys - i) i
+abbrev pub seek_at : List ℕ → Search → Node → ℕ → Seek
+seek_at b q m i = seek_in (bytes_of b q m) m q.keys.info q.keys.id q.keys.kind (m.nkeys - i) i
 
 -- the same of an entry that is not above
-unfoldable pub followIn : List ℕ → Node → Info → ℕ → ℕ → ℕ → Seek
-followIn b m info id kind i =
-    followThen (m.nkeys - (i + 1)) (order_in b m info id kind (i + 1)) i (seekIn b m info id kind (m.nkeys - (i + 1)) (i + 1))
+unfoldable pub follow_in : List ℕ → Node → Info → ℕ → ℕ → ℕ → Seek
+follow_in b m info id kind i =
+    follow_then (m.nkeys - (i + 1)) (order_in b m info id kind (i + 1)) i (seek_in b m info id kind (m.nkeys - (i + 1)) (i + 1))
 
--- what it comes to, where k follows the node: `each` (`each-seek`, proofs/Seeking.antt)
-abbrev pub seekThen : (Node → Tail → Tail) → List ℕ → Search → Node → Seek → Tail → Tail
-seekThen f b q m seek.Over k s = k s
-seekThen f b q m seek.Stop k s = end s
-seekThen f b q m (seek.At i) k s = act f (counted s (enterAt b q m i)) (each f b q m (m.nkeys - (i + 1)) (i + 1) k)
-seekThen f b q m (seek.No e) k s = refused e s
+-- what it comes to, where k follows the node: `each` (`each_seek`, proofs/Seeking.antt)
+abbrev pub seek_then : (Node → Tail → Tail) → List ℕ → Search → Node → Seek → Tail → Tail
+seek_then f b q m seek.Over k s = k s
+seek_then f b q m seek.Stop k s = end s
+seek_then f b q m (seek.At i) k s = act f (counted s (enter_at b q m i)) (each f b q m (m.nkeys - (i + 1)) (i + 1) k)
+seek_then f b q m (seek.No e) k s = refused e s
 
 abbrev pub turn_of : Parsed → Turn
 turn_of (parsed.Got c) = turn.Into c
 turn_of (parsed.No e) = turn.No e
 
 -- what a turn comes to, where k follows the node
-abbrev pub turnThen : (Node → Tail → Tail) → List ℕ → Search → Node → Turn → ℕ → Tail → Tail
-turnThen f b q m turn.Over i k s = k s
-turnThen f b q m turn.Stop i k s = end s
-turnThen f b q m (turn.Into c) i k s = f c (each f b q m (m.nkeys - i) i k) s
-turnThen f b q m (turn.No e) i k s = refused e s
+abbrev pub turn_then : (Node → Tail → Tail) → List ℕ → Search → Node → Turn → ℕ → Tail → Tail
+turn_then f b q m turn.Over i k s = k s
+turn_then f b q m turn.Stop i k s = end s
+turn_then f b q m (turn.Into c) i k s = f c (each f b q m (m.nkeys - i) i k) s
+turn_then f b q m (turn.No e) i k s = refused e s
 
 -- the same search for another kind
 abbrev pub kinded : Search → ℕ → Search
 kinded q k = record { keys = record { reader = q.keys.reader; info = q.keys.info; id = q.keys.id; kind = k; hashed = q.keys.hashed }; root = q.root; resolve = q.resolve }
 
-abbrev pub notBelow : Answer Order → Bool
-notBelow (got Below) = false
-notBelow (got Inside) = true
-notBelow (got Above) = true
-notBelow (no e) = false
+abbrev pub not_below : Answer Order → Bool
+not_below (got Below) = false
+not_below (got Inside) = true
+not_below (got Above) = true
+not_below (no e) = false
 
 -- whether a child before the i-th entry of an index node is gone into: the entry is not below, or there is none
-unfoldable pub staysAt : List ℕ → Search → Node → ℕ → Bool
-staysAt b q m i = ifLe m.nkeys i true (notBelow (order_at b q m i))
+unfoldable pub stays_at : List ℕ → Search → Node → ℕ → Bool
+stays_at b q m i = if_le m.nkeys i true (not_below (order_at b q m i))
 
 -- r is the next turn of an index node from its i-th entry on, s nodes having been gone through: the node goes on behind a child, which was read
 pub record Reaches (b : List ℕ) (q : Search) (m : Node) (i s : ℕ) (r : Turned) : Type 0 where
-  pub course : (f : Node → Tail → Tail) (k : Tail) → turnThen f b q m r.turn r.next k r.nodes ≡ each f b q m (m.nkeys - i) i k s
+  pub course : (f : Node → Tail → Tail) (k : Tail) → turn_then f b q m r.turn r.next k r.nodes ≡ each f b q m (m.nkeys - i) i k s
   pub behind : (c : Node) → r.turn ≡ turn.Into c → (i < r.next) × (r.next ≤ m.nkeys)
-  pub known : (c : Node) → r.turn ≡ turn.Into c → nodeAt q.keys.reader b c.block ≡ got c
+  pub known : (c : Node) → r.turn ≡ turn.Into c → node_at q.keys.reader b c.block ≡ got c
   -- a search of the same id and a greater kind goes into the same child, unless the entry behind it is below
-  pub higher : (c : Node) → r.turn ≡ turn.Into c → (k : ℕ) → q.keys.kind < k → staysAt b (kinded q k) m r.next ≡ true →
+  pub higher : (c : Node) → r.turn ≡ turn.Into c → (k : ℕ) → q.keys.kind < k → stays_at b (kinded q k) m r.next ≡ true →
       (f : Node → Tail → Tail) (t : Tail) → f c (each f b (kinded q k) m (m.nkeys - r.next) r.next t) r.nodes ≡ each f b (kinded q k) m (m.nkeys - i) i t s
 
 -- a node from its i-th entry on; a leaf is told by its flag, at any level (btree.rs, `is_leaf`)
 unfoldable pub node : (Node → Tail → Tail) → List ℕ → Search → Node → ℕ → Tail → Tail
 node f b q m i k =
-    ifEq (leafBit m.flags) 1
-    (λ s. leafFrom b q m (m.nkeys - i) i s (k s))
+    if_eq (leaf_bit m.flags) 1
+    (λ s. leaf_from b q m (m.nkeys - i) i s (k s))
     (each f b q m (m.nkeys - i) i k)
 
 -- a child of a node of a level. Document 01, btree.rs: "A child whose level + 1 differs from its parent's is 2"
 unfoldable pub child : List ℕ → Search → ℕ → Node → Tail → Tail
 child b q zero m k = refused Corrupt
-child b q (suc n) m k = λ s. ifEq m.level n (node (child b q n) b q m 0 k s) (refused Corrupt s)
+child b q (suc n) m k = λ s. if_eq m.level n (node (child b q n) b q m 0 k s) (refused Corrupt s)
 
 -- a node of a level from its i-th entry on
 abbrev pub walk : List ℕ → Search → ℕ → Node → ℕ → Tail → Tail
@@ -181,12 +181,12 @@ met (Left n) s k = nth n k
 met End s k = after s (got none)
 met (No e) s k = after s (no e)
 
-unfoldable pub passTold : Passed → Tail → Counted (Option Place)
-passTold r k = met r.pass r.nodes (k r.nodes)
+unfoldable pub pass_told : Passed → Tail → Counted (Option Place)
+pass_told r k = met r.pass r.nodes (k r.nodes)
 
 -- at the root nothing follows
-abbrev pub foundOf : Pass → Found
-foundOf (At p) = found.At p
-foundOf (Left n) = found.End
-foundOf End = found.End
-foundOf (No e) = found.No e
+abbrev pub found_of : Pass → Found
+found_of (At p) = found.At p
+found_of (Left n) = found.End
+found_of End = found.End
+found_of (No e) = found.No e

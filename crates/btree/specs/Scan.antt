@@ -1,15 +1,15 @@
 -- The records of one id and kind in a tree, in order. Document 01, btree.rs, `scan`, and "What must change shape".
 use Rattle.std.specs.Prelude.{ℕ, zero, suc, ◌+◌, List, [], ◌∷◌}
 use Rattle.std.proofs.Math.Option.{Option, none, some}
-use Rattle.error.specs.Answer.{Answer, got, no, ifLe, ifEq}
+use Rattle.error.specs.Answer.{Answer, got, no, if_le, if_eq}
 use Rattle.error.specs.declared.Refusal.{Refusal}
 use Rattle.error.specs.declared.Refusal.TheVariants.{Corrupt}
 use Rattle.arith.specs.Checked.{ticked}
-use Rattle.node.specs.Node.{leafBit}
+use Rattle.node.specs.Node.{leaf_bit}
 use Rattle.node.specs.declared.layout.Node.{Node}
 use Rattle.lookup.specs.Counted.{Counted, after}
 use Rattle.lookup.specs.Path.{Through}
-use Rattle.btree.specs.Entries.{Leaf, passOver, endScan, recordAt, item_at, Act, stop, skip, into, turnAt}
+use Rattle.btree.specs.Entries.{Leaf, pass_over, end_scan, record_at, item_at, Act, stop, skip, into, turn_at}
 use Rattle.btree.specs.declared.entries.Search.{Search}
 use Rattle.node.specs.declared.place.Place.{Place}
 use Rattle.btree.specs.declared.entries.Found.{Found}
@@ -40,45 +40,45 @@ along [] x = x
 along (p ∷ ps) x = through p (along ps x)
 
 -- an entry of a leaf
-unfoldable pub itemPart : Answer Leaf → Part
-itemPart (got passOver) = passed
-itemPart (got endScan) = ended
-itemPart (got (recordAt p)) = gives p passed
-itemPart (no e) = failed e
+unfoldable pub item_part : Answer Leaf → Part
+item_part (got pass_over) = passed
+item_part (got end_scan) = ended
+item_part (got (record_at p)) = gives p passed
+item_part (no e) = failed e
 
 -- n entries of a leaf from the i-th on (btree.rs, `scan_node`)
-unfoldable pub leafPart : List ℕ → Search → Node → ℕ → ℕ → Part
-leafPart b q m zero i = passed
-leafPart b q m (suc n) i = itemPart (item_at b q m i) then leafPart b q m n (i + 1)
+unfoldable pub leaf_part : List ℕ → Search → Node → ℕ → ℕ → Part
+leaf_part b q m zero i = passed
+leaf_part b q m (suc n) i = item_part (item_at b q m i) then leaf_part b q m n (i + 1)
 
 -- an entry of an index node, with f of its child
-unfoldable pub actPart : (Node → Part) → Answer Act → Part
-actPart f (got stop) = ended
-actPart f (got skip) = passed
-actPart f (got (into m)) = f m
-actPart f (no e) = failed e
+unfoldable pub act_part : (Node → Part) → Answer Act → Part
+act_part f (got stop) = ended
+act_part f (got skip) = passed
+act_part f (got (into m)) = f m
+act_part f (no e) = failed e
 
-unfoldable pub turnPart : (Node → Part) → Through Act → Part
-turnPart f t = along t.path (actPart f t.answer)
+unfoldable pub turn_part : (Node → Part) → Through Act → Part
+turn_part f t = along t.path (act_part f t.answer)
 
 -- n entries of an index node from the i-th on (btree.rs, `scan_node`)
-unfoldable pub indexPart : (Node → Part) → List ℕ → Search → Node → ℕ → ℕ → Part
-indexPart f b q m zero i = passed
-indexPart f b q m (suc n) i = turnPart f (turnAt b q m i) then indexPart f b q m n (i + 1)
+unfoldable pub index_part : (Node → Part) → List ℕ → Search → Node → ℕ → ℕ → Part
+index_part f b q m zero i = passed
+index_part f b q m (suc n) i = turn_part f (turn_at b q m i) then index_part f b q m n (i + 1)
 
 -- a node; a leaf is told by its flag, at any level (btree.rs, `is_leaf`)
-unfoldable pub nodePart : (Node → Part) → List ℕ → Search → Node → Part
-nodePart f b q m = ifEq (leafBit m.flags) 1 (leafPart b q m m.nkeys 0) (indexPart f b q m m.nkeys 0)
+unfoldable pub node_part : (Node → Part) → List ℕ → Search → Node → Part
+node_part f b q m = if_eq (leaf_bit m.flags) 1 (leaf_part b q m m.nkeys 0) (index_part f b q m m.nkeys 0)
 
 -- a child of a node of a level. Document 01, btree.rs: "A child whose level + 1 differs from its parent's is 2"
-unfoldable pub childPart : List ℕ → Search → ℕ → Node → Part
-childPart b q zero m = failed Corrupt
-childPart b q (suc n) m = ifEq m.level n (nodePart (childPart b q n) b q m) (failed Corrupt)
+unfoldable pub child_part : List ℕ → Search → ℕ → Node → Part
+child_part b q zero m = failed Corrupt
+child_part b q (suc n) m = if_eq m.level n (node_part (child_part b q n) b q m) (failed Corrupt)
 
 -- the tree below the root, and the root.
 -- Document 01, btree.rs: "A level over 32 .. is 2", so no node that was read is such a root
-unfoldable pub treePart : List ℕ → Search → Part
-treePart b q = ifLe q.root.level 32 (through q.root.block (nodePart (childPart b q q.root.level) b q q.root)) (failed Corrupt)
+unfoldable pub tree_part : List ℕ → Search → Part
+tree_part b q = if_le q.root.level 32 (through q.root.block (node_part (child_part b q q.root.level) b q q.root)) (failed Corrupt)
 
 -- the places of the records, each with the count of nodes gone through by then, and how it ended
 pub data Run : Type 0 where
@@ -91,16 +91,16 @@ abbrev pub Tail : Type 0
 Tail = ℕ → Run
 
 -- a part, counted, where k follows
-unfoldable pub countedPart : Part → Tail → Tail
-countedPart (through p x) k s = countedPart x k (ticked s)
-countedPart (gives p x) k s = more p s (countedPart x k s)
-countedPart passed k s = k s
-countedPart ended k s = end s
-countedPart (failed e) k s = refused e s
+unfoldable pub counted_part : Part → Tail → Tail
+counted_part (through p x) k s = counted_part x k (ticked s)
+counted_part (gives p x) k s = more p s (counted_part x k s)
+counted_part passed k s = k s
+counted_part ended k s = end s
+counted_part (failed e) k s = refused e s
 
 -- all records below the root, s nodes having been gone through before
-unfoldable pub scanOf : List ℕ → Search → ℕ → Run
-scanOf b q s = countedPart (treePart b q) end s
+unfoldable pub scan_of : List ℕ → Search → ℕ → Run
+scan_of b q s = counted_part (tree_part b q) end s
 
 -- a run's k-th record, or how the run ended before it (document 01, "What must change shape": "how many records to pass")
 unfoldable pub nth : ℕ → Run → Counted (Option Place)
@@ -128,10 +128,10 @@ ending (end s) = after s (got none)
 ending (refused e s) = after s (no e)
 
 -- what a call of `scan` says
-abbrev pub foundTold : Found → Answer (Option Place)
-foundTold (found.At p) = got (some p)
-foundTold found.End = got none
-foundTold (found.No e) = no e
+abbrev pub found_told : Found → Answer (Option Place)
+found_told (found.At p) = got (some p)
+found_told found.End = got none
+found_told (found.No e) = no e
 
-abbrev pub scannedTold : Scanned → Counted (Option Place)
-scannedTold r = after r.nodes (foundTold r.found)
+abbrev pub scanned_told : Scanned → Counted (Option Place)
+scanned_told r = after r.nodes (found_told r.found)

@@ -3,10 +3,10 @@ ghost use Rattle.std.specs.Prelude.{◌≡◌, ◌<◌, ◌^◌, length};
 ghost use Rattle.error.specs.Answer.{got};
 ghost use Rattle.node.specs.Place.{Small};
 ghost use Rattle.lookup.specs.Path.{counted};
-ghost use Rattle.btree.specs.Entries.{orderTold, keyOrder, order_of, order_in, itemTold, itemIn, recordOf, enteringTold, childNode, enterAt};
+ghost use Rattle.btree.specs.Entries.{order_told, key_order, order_of, order_in, item_told, item_in, record_of, entering_told, child_node, enter_at};
 
 use arith::tick;
-use bytes::{Number, part, u64_at};
+use byte_fields::{Number, part, u64_at};
 use error::Refusal;
 use lookup::{Resolve, read_node, resolve_child};
 use node::{Entered, Info, KeyValue, Node, Parsed, Place, Value, child_of, entry, place_of};
@@ -98,7 +98,7 @@ fn order_of(wanted_id: u64, wanted_kind: u8, head: u64) -> Order
 }
 
 fn key_order(id: u64, kind: u8, key: &[u8]) -> Ordered
-    ensures { orderTold result ≡ keyOrder id kind key.now }
+    ensures { order_told result ≡ key_order id kind key.now }
 {
     match u64_at(key, 0) {
         Number::Got(head) => Ordered::Got(order_of(id, kind, head)),
@@ -108,7 +108,7 @@ fn key_order(id: u64, kind: u8, key: &[u8]) -> Ordered
 
 // How the i-th entry of a node in the block b stands to what is searched.
 pub fn order_in(b: &[u8], node: Node, info: Info, id: u64, kind: u8, i: u32) -> Ordered
-    ensures { orderTold result ≡ order_in b.now node info id kind i }
+    ensures { order_told result ≡ order_in b.now node info id kind i }
 {
     match entry(b, node, info, i) {
         Entered::Got(e) => key_order(id, kind, part(b, e.key)),
@@ -119,7 +119,7 @@ pub fn order_in(b: &[u8], node: Node, info: Info, id: u64, kind: u8, i: u32) -> 
 // A record of a leaf, unless it has no value.
 fn record_of(node: Node, e: KeyValue) -> Item
     requires { Small e }
-    ensures { itemTold result ≡ got (recordOf node e) }
+    ensures { item_told result ≡ got (record_of node e) }
 {
     let value = e.value;
     match value {
@@ -131,7 +131,7 @@ fn record_of(node: Node, e: KeyValue) -> Item
 // The i-th entry of a leaf in the block b.
 pub fn item_in(b: &[u8], node: Node, info: Info, id: u64, kind: u8, i: u32) -> Item
     requires { length b.now < 2 ^ 32 }
-    ensures { itemTold result ≡ itemIn b.now node info id kind i }
+    ensures { item_told result ≡ item_in b.now node info id kind i }
 {
     match entry(b, node, info, i) {
         Entered::Got(e) => match key_order(id, kind, part(b, e.key)) {
@@ -148,7 +148,7 @@ pub fn item_in(b: &[u8], node: Node, info: Info, id: u64, kind: u8, i: u32) -> I
 
 // The node that a child's name leads to.
 fn read_child(image: &[u8], q: Search, child: u64, nodes: u64) -> Entering
-    ensures { enteringTold result ≡ counted nodes (childNode image.now q child) }
+    ensures { entering_told result ≡ counted nodes (child_node image.now q child) }
 {
     let resolve = q.resolve;
     let resolved = resolve_child(q.keys.reader, image, resolve, child, nodes);
@@ -173,7 +173,7 @@ fn read_child(image: &[u8], q: Search, child: u64, nodes: u64) -> Entering
 
 // The child of the i-th entry of an index node.
 pub fn enter(image: &[u8], q: Search, node: Node, i: u32, nodes: u64) -> Entering
-    ensures { enteringTold result ≡ counted nodes (enterAt image.now q node i) }
+    ensures { entering_told result ≡ counted nodes (enter_at image.now q node i) }
 {
     match child_of(q.keys.reader.block(image, node.block), node, q.keys.info, i) {
         Number::Got(child) => read_child(image, q, child, nodes),

@@ -1,6 +1,6 @@
 // The records of a leaf, one after the other.
 ghost use Rattle.std.specs.Prelude.{◌≡◌, ◌-◌, ◌<◌, ◌^◌, length};
-ghost use Rattle.btree.specs.Inner.{inLeaf, inKeyed};
+ghost use Rattle.btree.specs.Inner.{in_leaf, in_keyed};
 
 use crate::entries::{Item, Keys, item_in};
 use error::Refusal;
@@ -18,7 +18,7 @@ pub enum InLeaf {
 // The first record of a leaf in the block b, from an entry on.
 pub fn in_leaf(b: &[u8], node: Node, info: Info, id: u64, kind: u8, from: u32) -> InLeaf
     requires { length b.now < 2 ^ 32 }
-    ensures { result ≡ inLeaf b.now node info id kind (node.nkeys - from) from }
+    ensures { result ≡ in_leaf b.now node info id kind (node.nkeys - from) from }
 {
     let mut i = from;
     while i < node.nkeys {
@@ -36,7 +36,7 @@ pub fn in_leaf(b: &[u8], node: Node, info: Info, id: u64, kind: u8, from: u32) -
 
 // The same of a leaf of the image.
 pub fn next_in(image: &[u8], k: Keys, node: Node, from: u32) -> InLeaf
-    ensures { result ≡ inKeyed image.now k node from }
+    ensures { result ≡ in_keyed image.now k node from }
 {
     in_leaf(
         k.reader.block(image, node.block),

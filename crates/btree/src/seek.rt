@@ -1,6 +1,6 @@
 // The children of an index node that a scan goes into, one after the other: each key is read once.
 ghost use Rattle.std.specs.Prelude.{◌≡◌, ◌+◌, ◌-◌, ◌<◌};
-ghost use Rattle.btree.specs.Inner.{followIn, seekIn, seekAt, turn_of, Reaches, staysAt};
+ghost use Rattle.btree.specs.Inner.{follow_in, seek_in, seek_at, turn_of, Reaches, stays_at};
 
 use crate::entries::{Entering, Order, Ordered, Search, enter, order_in};
 use error::Refusal;
@@ -34,7 +34,7 @@ pub struct Turned {
 // An entry that is not above is skipped as long as the one after it is below.
 fn past_below(b: &[u8], node: Node, info: Info, id: u64, kind: u8, from: u32) -> Seek
     requires { from < node.nkeys }
-    ensures { result ≡ followIn b.now node info id kind from }
+    ensures { result ≡ follow_in b.now node info id kind from }
 {
     let mut at = from;
     loop {
@@ -55,7 +55,7 @@ fn past_below(b: &[u8], node: Node, info: Info, id: u64, kind: u8, from: u32) ->
 }
 
 fn seek_in(b: &[u8], node: Node, info: Info, id: u64, kind: u8, from: u32) -> Seek
-    ensures { result ≡ seekIn b.now node info id kind (node.nkeys - from) from }
+    ensures { result ≡ seek_in b.now node info id kind (node.nkeys - from) from }
 {
     if node.nkeys <= from {
         return Seek::Over;
@@ -72,7 +72,7 @@ fn seek_in(b: &[u8], node: Node, info: Info, id: u64, kind: u8, from: u32) -> Se
 
 // The entry of an index node of the image that is gone into, from an entry on.
 fn seek_at(image: &[u8], q: Search, node: Node, from: u32) -> Seek
-    ensures { result ≡ seekAt image.now q node from }
+    ensures { result ≡ seek_at image.now q node from }
 {
     seek_in(
         q.keys.reader.block(image, node.block),
@@ -126,7 +126,7 @@ pub fn next_child(image: &[u8], q: Search, node: Node, from: u32, nodes: u64) ->
 
 // Whether a child before an entry of an index node is gone into, and not skipped: the entry is not below, or there is none.
 pub fn stays(image: &[u8], q: Search, node: Node, i: u32) -> bool
-    ensures { result ≡ staysAt image.now q node i }
+    ensures { result ≡ stays_at image.now q node i }
 {
     if node.nkeys <= i {
         return true;

@@ -1,9 +1,9 @@
 // The record of a scan after a number of others: a recursion on the falling level that passes on how many remain to skip.
 ghost use Rattle.std.specs.Prelude.{◌≡◌, ℕ, ◌-◌, ◌<◌, ◌^◌, List, length};
 ghost use Rattle.btree.specs.Entries.{bytes_of};
-ghost use Rattle.btree.specs.Scan.{Run, Tail, scanOf, nth, scannedTold};
+ghost use Rattle.btree.specs.Scan.{Run, Tail, scan_of, nth, scanned_told};
 ghost use Rattle.btree.specs.declared.entries.Search.{Search};
-ghost use Rattle.btree.specs.Inner.{leafFrom, walk, child, met, passTold, foundOf};
+ghost use Rattle.btree.specs.Inner.{leaf_from, walk, child, met, pass_told, found_of};
 
 use crate::entries::{Found, Keys, Scanned, Search};
 use crate::leaf::{InLeaf, in_leaf};
@@ -39,7 +39,7 @@ fn pass_of(pass: Pass, nodes: u64) -> Passed
 // The records of a leaf in the block b. Any image that has that block there will do.
 fn pass_in(b: &[u8], k: Keys, node: Node, skip: u64) -> Pass
     requires { length b.now < 2 ^ 32 }
-    ensures { (image : List ℕ) (q : Search) → k ≡ q.keys → b.now ≡ bytes_of image q node → (s : ℕ) (t : Run) → met result s t ≡ nth skip (leafFrom image q node (node.nkeys - 0) 0 s t) }
+    ensures { (image : List ℕ) (q : Search) → k ≡ q.keys → b.now ≡ bytes_of image q node → (s : ℕ) (t : Run) → met result s t ≡ nth skip (leaf_from image q node (node.nkeys - 0) 0 s t) }
 {
     let mut left = skip;
     let mut i: u32 = 0;
@@ -60,7 +60,7 @@ fn pass_in(b: &[u8], k: Keys, node: Node, skip: u64) -> Pass
 }
 
 fn pass_leaf(image: &[u8], q: Search, node: Node, skip: u64) -> Pass
-    ensures { (s : ℕ) (k : Run) → met result s k ≡ nth skip (leafFrom image.now q node (node.nkeys - 0) 0 s k) }
+    ensures { (s : ℕ) (k : Run) → met result s k ≡ nth skip (leaf_from image.now q node (node.nkeys - 0) 0 s k) }
 {
     let k = q.keys;
     pass_in(k.reader.block(image, node.block), k, node, skip)
@@ -68,7 +68,7 @@ fn pass_leaf(image: &[u8], q: Search, node: Node, skip: u64) -> Pass
 
 #[cycle(pass_child_pass_node)]
 fn pass_node(image: &[u8], q: Search, level: u16, node: Node, skip: u64, nodes: u64) -> Passed
-    ensures { (k : Tail) → passTold result k ≡ nth skip (walk image.now q level node 0 k nodes) }
+    ensures { (k : Tail) → pass_told result k ≡ nth skip (walk image.now q level node 0 k nodes) }
 {
     if node.flags / 2 % 2 == 1 {
         return Passed {
@@ -107,7 +107,7 @@ fn pass_node(image: &[u8], q: Search, level: u16, node: Node, skip: u64, nodes: 
 
 #[cycle(pass_child_pass_node)]
 fn pass_child(image: &[u8], q: Search, level: u16, m: Node, skip: u64, nodes: u64) -> Passed
-    ensures { (k : Tail) → passTold result k ≡ nth skip (child image.now q level m k nodes) }
+    ensures { (k : Tail) → pass_told result k ≡ nth skip (child image.now q level m k nodes) }
 {
     if level == 0 {
         return pass_of(Pass::No(Refusal::Corrupt), nodes);
@@ -120,7 +120,7 @@ fn pass_child(image: &[u8], q: Search, level: u16, m: Node, skip: u64, nodes: u6
 
 // At the root nothing follows.
 fn found_of(pass: Pass) -> Found
-    ensures { result ≡ foundOf pass }
+    ensures { result ≡ found_of pass }
 {
     match pass {
         Pass::At(p) => Found::At(p),
@@ -132,7 +132,7 @@ fn found_of(pass: Pass) -> Found
 
 // The record that stands after `skip` others.
 pub fn scan(image: &[u8], q: Search, skip: u64, nodes: u64) -> Scanned
-    ensures { scannedTold result ≡ nth skip (scanOf image.now q nodes) }
+    ensures { scanned_told result ≡ nth skip (scan_of image.now q nodes) }
 {
     let root = q.root;
     if 32 < root.level {

@@ -1,17 +1,17 @@
 -- The table of document 01's marked lines holds: its numbers by computation, the line on paths by the laws of lookup.
 use Rattle.std.proofs.Common.{◌≡◌, ℕ, false, List, [], ◌∷◌, ◌++◌, length, replicate, sym, refl, arith}
 use lib.Count.{ones}
-use Rattle.error.specs.Answer.{ifLe, ifEq}
-use Rattle.error.proofs.Laws.{at-most, above, other}
-use Rattle.bytes.specs.Number.{little}
-use Rattle.checksum.specs.Fletcher.{wordsAt, words_of, sum, running, s1, s2, checksum, valid}
+use Rattle.error.specs.Answer.{if_le, if_eq}
+use Rattle.error.proofs.Laws.{at_most_lem, above, other}
+use Rattle.byte_fields.specs.Number.{little}
+use Rattle.checksum.specs.Fletcher.{words_at, words_of, sum, running, s1, s2, checksum, valid}
 use Rattle.crc.specs.Crc.{crc}
-use Rattle.utf8.specs.Characters.{charactersIn, characters}
-use Rattle.unicode.specs.Keys.{flat, canonical, hashedOf, allCovered, coveredText}
-use Rattle.name_hash.specs.Hash.{utf32, nameHash, nameLenAndHash}
-use Rattle.node.specs.Node.{laidOut}
-use Rattle.geometry.specs.BlockZero.{sizeOk}
-use Rattle.paths.proofs.Root.{lookup-empty, lookup-slashes}
+use Rattle.utf8.specs.Characters.{characters_in, characters}
+use Rattle.unicode_forms.specs.Keys.{flat, canonical, hashed_of, all_covered, covered_text}
+use Rattle.name_hash.specs.Hash.{utf32, name_hash, name_len_and_hash}
+use Rattle.node.specs.Node.{laid_out}
+use Rattle.geometry.specs.BlockZero.{size_ok}
+use Rattle.paths.proofs.Root.{lookup_empty, lookup_slashes}
 use Rattle.cases.specs.Marked.{MarkedLines, given, said}
 
 -- what holds of eight elements, one by one, holds of a list of them
@@ -31,18 +31,18 @@ too_short : (b : List ℕ) → length b ≡ 28 → valid b ≡ false
 unfolding valid
 too_short b n = sym (above 32 (length b) _ _ _ (omega arith) refl)
 
-not-of-words : (b : List ℕ) → length b ≡ 34 → valid b ≡ false
+not_of_words : (b : List ℕ) → length b ≡ 34 → valid b ≡ false
 unfolding valid
-not-of-words b n = sym (at-most 32 (length b) _ _ _ (omega arith) (other _ _ _ _ _ (λ h. omega arith) refl))
+not_of_words b n = sym (at_most_lem 32 (length b) _ _ _ (omega arith) (other _ _ _ _ _ (λ h. omega arith) refl))
 
 pub marked : MarkedLines
-unfolding ifLe ifEq little wordsAt words_of sum running s1 s2 checksum crc charactersIn characters flat canonical hashedOf allCovered coveredText utf32 nameHash nameLenAndHash laidOut sizeOk ones given said
+unfolding if_le if_eq little words_at words_of sum running s1 s2 checksum crc characters_in characters flat canonical hashed_of all_covered covered_text utf32 name_hash name_len_and_hash laid_out size_ok ones given said
 marked = record {
-  zero-from-8 = eight (λ (l : List ℕ). checksum (l ++ replicate 24 0) ≡ 0xFFFFFFFFFFFFFFFF) (λ a b c d e f g h. refl);
-  one-at-8 = eight (λ (l : List ℕ). checksum (l ++ 1 ∷ replicate 23 0) ≡ 0x00000006FFFFFFF8) (λ a b c d e f g h. refl);
-  invalid-28 = too_short;
-  invalid-34 = not-of-words;
+  zero_from_8 = eight (λ (l : List ℕ). checksum (l ++ replicate 24 0) ≡ 0xFFFFFFFFFFFFFFFF) (λ a b c d e f g h. refl);
+  one_at_8 = eight (λ (l : List ℕ). checksum (l ++ 1 ∷ replicate 23 0) ≡ 0x00000006FFFFFFF8) (λ a b c d e f g h. refl);
+  invalid_28 = too_short;
+  invalid_34 = not_of_words;
   numbers = refl;
-  empty-is-root = lookup-empty;
-  slashes-are-root = lookup-slashes;
+  empty_is_root = lookup_empty;
+  slashes_are_root = lookup_slashes;
 }

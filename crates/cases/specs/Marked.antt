@@ -2,24 +2,24 @@
 -- proofs/Marked.antt.
 use Rattle.std.specs.Prelude.{◌≡◌, ℕ, true, false, List, [], ◌∷◌, ◌++◌, length, replicate}
 use Rattle.checksum.specs.Fletcher.{checksum, valid}
-use Rattle.name_hash.specs.Hash.{nameHash, nameLenAndHash}
-use Rattle.node.specs.Node.{laidOut}
-use Rattle.geometry.specs.BlockZero.{sizeOk}
+use Rattle.name_hash.specs.Hash.{name_hash, name_len_and_hash}
+use Rattle.node.specs.Node.{laid_out}
+use Rattle.geometry.specs.BlockZero.{size_ok}
 use Rattle.volume.specs.declared.Volume.{Volume}
-use Rattle.lists.specs.Lists.{rootOf}
-use Rattle.paths.specs.Lookup.{lookupPath}
-use Rattle.leaves.specs.Leaves.{valueOr, refusalIn}
+use Rattle.lists.specs.Lists.{root_of}
+use Rattle.paths.specs.Lookup.{lookup_path}
+use Rattle.leaves.specs.Leaves.{value_or, refusal_in}
 
 -- a leaf's fields of a level
 abbrev levelled : ℕ → ℕ
-levelled level = refusalIn (laidOut (record { flags = 2; level = level; nkeys = 0; toc_off = 0; toc_len = 0 }) 1 4096)
+levelled level = refusal_in (laid_out (record { flags = 2; level = level; nkeys = 0; toc_off = 0; toc_len = 0 }) 1 4096)
 
 -- of hashes, block sizes and levels: what the definitions give, a line of the paper a line
 unfoldable pub given : List ℕ
 given =
-    valueOr 0 (nameHash true []) ∷ valueOr 0 (nameHash false []) ∷ valueOr 0 (nameLenAndHash true []) ∷ valueOr 0 (nameLenAndHash false [])
-    ∷ refusalIn (sizeOk 4096) ∷ refusalIn (sizeOk 65536)
-    ∷ refusalIn (sizeOk 2048) ∷ refusalIn (sizeOk 12288) ∷ refusalIn (sizeOk 131072)
+    value_or 0 (name_hash true []) ∷ value_or 0 (name_hash false []) ∷ value_or 0 (name_len_and_hash true []) ∷ value_or 0 (name_len_and_hash false [])
+    ∷ refusal_in (size_ok 4096) ∷ refusal_in (size_ok 65536)
+    ∷ refusal_in (size_ok 2048) ∷ refusal_in (size_ok 12288) ∷ refusal_in (size_ok 131072)
     ∷ levelled 32 ∷ levelled 33
     ∷ []
 
@@ -34,12 +34,12 @@ said =
 
 pub record MarkedLines : Type 0 where
   -- "checksum of 32 bytes, zero from byte 8 on, is 0xFFFFFFFFFFFFFFFF", whatever the first 8 are; "with the word at 8 equal to 1, 0x00000006FFFFFFF8"
-  pub zero-from-8 : (first : List ℕ) → length first ≡ 8 → checksum (first ++ replicate 24 0) ≡ 0xFFFFFFFFFFFFFFFF
-  pub one-at-8 : (first : List ℕ) → length first ≡ 8 → checksum (first ++ 1 ∷ replicate 23 0) ≡ 0x00000006FFFFFFF8
+  pub zero_from_8 : (first : List ℕ) → length first ≡ 8 → checksum (first ++ replicate 24 0) ≡ 0xFFFFFFFFFFFFFFFF
+  pub one_at_8 : (first : List ℕ) → length first ≡ 8 → checksum (first ++ 1 ∷ replicate 23 0) ≡ 0x00000006FFFFFFF8
   -- "28 and 34 bytes invalid", whatever they are
-  pub invalid-28 : (b : List ℕ) → length b ≡ 28 → valid b ≡ false
-  pub invalid-34 : (b : List ℕ) → length b ≡ 34 → valid b ≡ false
+  pub invalid_28 : (b : List ℕ) → length b ≡ 28 → valid b ≡ false
+  pub invalid_34 : (b : List ℕ) → length b ≡ 34 → valid b ≡ false
   pub numbers : given ≡ said
   -- "paths "" and "//" are the root", in any volume of any image
-  pub empty-is-root : (image : List ℕ) (v : Volume) (nodes : ℕ) → lookupPath image v [] nodes ≡ rootOf image v nodes
-  pub slashes-are-root : (image : List ℕ) (v : Volume) (nodes : ℕ) → lookupPath image v (47 ∷ 47 ∷ []) nodes ≡ rootOf image v nodes
+  pub empty_is_root : (image : List ℕ) (v : Volume) (nodes : ℕ) → lookup_path image v [] nodes ≡ root_of image v nodes
+  pub slashes_are_root : (image : List ℕ) (v : Volume) (nodes : ℕ) → lookup_path image v (47 ∷ 47 ∷ []) nodes ≡ root_of image v nodes

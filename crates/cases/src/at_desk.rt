@@ -9,7 +9,7 @@ const NUMBERS: usize = 112;
 const OTHER_COUNTS: i64 = -1000;
 
 fn number(input: &[u8], at: usize) -> u64 {
-    value(bytes::u64_at(input, at))
+    value(byte_fields::u64_at(input, at))
 }
 
 fn path_in(input: &[u8]) -> &[u8] {

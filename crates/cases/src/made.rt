@@ -22,12 +22,12 @@ fn written_on(out: &mut [u8]) {
 // A bookmark handed out or in: the input is the record's kind and a transaction number, or the bookmark.
 fn made_marked(r: Record, image: &[u8], input: &[u8], out: &mut [u8]) -> i64 {
     let op = r.op;
-    let kind = (value(bytes::u64_at(input, 0)) % 256) as u8;
+    let kind = (value(byte_fields::u64_at(input, 0)) % 256) as u8;
     match op {
         20 => apfs_mark(image, r.volume, r.a, kind, r.b, out),
         21 => apfs_mark_at(
             image,
-            value(bytes::u64_at(input, 8)),
+            value(byte_fields::u64_at(input, 8)),
             r.volume,
             r.a,
             kind,
@@ -54,7 +54,7 @@ fn made_at(r: Record, image: &[u8], input: &[u8], out: &mut [u8]) -> i64 {
         19 => apfs_measure_at(image, r.a, r.volume, out),
         16 => apfs_read_at(
             image,
-            value(bytes::u64_at(input, 0)),
+            value(byte_fields::u64_at(input, 0)),
             r.volume,
             r.a,
             r.b,
@@ -78,7 +78,7 @@ fn made(r: Record, image: &[u8], input: &[u8], out: &mut [u8]) -> i64 {
         11 => apfs_replaced(
             image,
             r.volume,
-            value(bytes::u64_at(input, 0)),
+            value(byte_fields::u64_at(input, 0)),
             r.a,
             r.b,
             out,

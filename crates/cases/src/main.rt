@@ -9,7 +9,7 @@ use crate::agreement::{Tally, counted, print_kinds, print_tally};
 use crate::image::{laid_out, wiped};
 use crate::made::agrees;
 use crate::record::{Record, next_record};
-use bytes::{Span, part};
+use byte_fields::{Span, part};
 
 const END: u8 = 0;
 

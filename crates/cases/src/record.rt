@@ -1,7 +1,7 @@
 // A record of the file: op and expected refusal (1 byte each), volume, a, b (8 each), the buffer's length, the expected count,
 // the expected sum of the buffer after the call, the input's length (4 each); then its input. Numbers are little-endian. Op 0
 // ends the file.
-use bytes::Number;
+use byte_fields::Number;
 
 const HEAD: usize = 42;
 
@@ -30,13 +30,13 @@ fn record_of(head: &[u8; HEAD]) -> Record {
     Record {
         op: head[0],
         refusal: head[1],
-        volume: value(bytes::u64_at(head, 2)),
-        a: value(bytes::u64_at(head, 10)),
-        b: value(bytes::u64_at(head, 18)),
-        room: value(bytes::u32_at(head, 26)) as usize,
-        count: value(bytes::u32_at(head, 30)),
-        sum: value(bytes::u32_at(head, 34)),
-        len: value(bytes::u32_at(head, 38)) as usize,
+        volume: value(byte_fields::u64_at(head, 2)),
+        a: value(byte_fields::u64_at(head, 10)),
+        b: value(byte_fields::u64_at(head, 18)),
+        room: value(byte_fields::u32_at(head, 26)) as usize,
+        count: value(byte_fields::u32_at(head, 30)),
+        sum: value(byte_fields::u32_at(head, 34)),
+        len: value(byte_fields::u32_at(head, 38)) as usize,
     }
 }
 

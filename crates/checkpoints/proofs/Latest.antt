@@ -5,15 +5,15 @@ use mathlib.Core.List.{List}
 use mathlib.Core.Option.{Option, none, some}
 use native.Mathlib.Decide.{ℕ_discrete}
 use native.Mathlib.Omega.{arith}
-use Rattle.error.proofs.Laws.{le-cases}
+use Rattle.error.proofs.Laws.{le_cases}
 use Rattle.obj.specs.declared.reader.Reader.{Reader}
-use Rattle.checkpoints.specs.Checkpoint.{acceptedAt, blockPlace, prefer, latestIn}
+use Rattle.checkpoints.specs.Checkpoint.{accepted_at, block_place, prefer, latest_in}
 use Rattle.checkpoints.specs.declared.superblock.Superblock.{Superblock}
 use Rattle.checkpoints.proofs.Asked.{nothing, same_some}
 
 module _ (r : Reader) (image : List ℕ) (start ring : ℕ) where
   abbrev pub Accepted : ℕ → Superblock → Type 0
-  Accepted i sb = acceptedAt r image ring (blockPlace r start i) ≡ some sb
+  Accepted i sb = accepted_at r image ring (block_place r start i) ≡ some sb
 
   -- sb is that of the earliest block of the greatest transaction number among the accepted ones of n blocks from the k-th on
   pub record LatestOf (n k : ℕ) (sb : Superblock) : Type 0 where
@@ -65,25 +65,25 @@ module _ (r : Reader) (image : List ℕ) (start ring : ℕ) where
       earliest = λ j o h t x e. split j o h t x (λ y q. absurd (omega (arith, f o y))) (λ u v. l.earliest j o u v x e);
     }
 
-    says_first : (a b : Option Superblock) → acceptedAt r image ring (blockPlace r start k) ≡ a → Says n (k + 1) b → Says (suc n) k (prefer a b)
+    says_first : (a b : Option Superblock) → accepted_at r image ring (block_place r start k) ≡ a → Says n (k + 1) b → Says (suc n) k (prefer a b)
     unfolding Says
     says_first (some own) (some other) p l =
-        le-cases (Says (suc n) k)
+        le_cases (Says (suc n) k)
         (λ h. own_first own p (λ j o u v x. omega (arith, l.greatest j o u v x)))
         (λ h. later other l (λ o x. rw (same_some (sym x ∙ p)) h))
     says_first (some own) none p l = own_first own p (λ j o u v x. absurd (l j o u v x))
     says_first none (some other) p l = later other l (λ o x. nothing (sym p ∙ x))
     says_first none none p l = λ j o h t x. split j o h t x (λ y q. nothing (sym p ∙ y)) (λ u v. l j o u v x)
 
-  says : (n k : ℕ) → Says n k (latestIn r image start ring n k)
-  unfolding latestIn Says
+  says : (n k : ℕ) → Says n k (latest_in r image start ring n k)
+  unfolding latest_in Says
   says zero k = λ j o h t x. omega arith
-  says (suc n) k = says_first n k (acceptedAt r image ring (blockPlace r start k)) (latestIn r image start ring n (k + 1)) refl (says n (k + 1))
+  says (suc n) k = says_first n k (accepted_at r image ring (block_place r start k)) (latest_in r image start ring n (k + 1)) refl (says n (k + 1))
 
-  pub latest-of : (n k : ℕ) (sb : Superblock) → latestIn r image start ring n k ≡ some sb → LatestOf n k sb
+  pub latest_of : (n k : ℕ) (sb : Superblock) → latest_in r image start ring n k ≡ some sb → LatestOf n k sb
   unfolding Says
-  latest-of n k sb e = rw e at (says n k)
+  latest_of n k sb e = rw e at (says n k)
 
-  pub none_of : (n k : ℕ) → latestIn r image start ring n k ≡ none → None n k
+  pub none_of : (n k : ℕ) → latest_in r image start ring n k ≡ none → None n k
   unfolding Says
   none_of n k p = rw p at (says n k)

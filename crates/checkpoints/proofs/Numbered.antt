@@ -4,10 +4,10 @@ use mathlib.Core.Path.{◌≡◌, refl, sym, ap, ◌∙◌}
 use mathlib.Core.List.{List}
 use mathlib.Core.Option.{Option, none, some}
 use native.Mathlib.Omega.{arith}
-use Rattle.error.proofs.Laws.{eq-cases}
+use Rattle.error.proofs.Laws.{eq_cases}
 use Rattle.obj.specs.declared.reader.Reader.{Reader}
-use Rattle.checkpoints.specs.Checkpoint.{acceptedAt, blockPlace}
-use Rattle.checkpoints.specs.Numbers.{ofNumber, earlier, numberedIn}
+use Rattle.checkpoints.specs.Checkpoint.{accepted_at, block_place}
+use Rattle.checkpoints.specs.Numbers.{of_number, earlier, numbered_in}
 use Rattle.checkpoints.specs.declared.superblock.Superblock.{Superblock}
 use Rattle.checkpoints.proofs.Asked.{nothing, same_some}
 use Rattle.checkpoints.proofs.Latest.{Accepted, split}
@@ -44,23 +44,23 @@ module _ (r : Reader) (image : List ℕ) (start ring x : ℕ) where
     }
     later none f l = λ j o h t a e. split r image start ring n k j o h t a (λ y q. f o y e) (λ u v. l j o u v a e)
 
-    says_first : (a b : Option Superblock) → acceptedAt r image ring (blockPlace r start k) ≡ a → Says n (k + 1) b → Says (suc n) k (earlier (ofNumber x a) b)
+    says_first : (a b : Option Superblock) → accepted_at r image ring (block_place r start k) ≡ a → Says n (k + 1) b → Says (suc n) k (earlier (of_number x a) b)
     unfolding Says
     says_first (some own) b p l =
-        eq-cases (λ (o : Option Superblock). Says (suc n) k (earlier o b))
+        eq_cases (λ (o : Option Superblock). Says (suc n) k (earlier o b))
         (λ h. record { own = k; from = omega arith; before = omega arith; accepted = p; number = h; earliest = λ j o u v a e. u })
         (λ h. later b (λ o a e. h (ap (λ (s : Superblock). s.xid) (same_some (sym p ∙ a)) ∙ e)) l)
     says_first none b p l = later b (λ o a e. nothing (sym p ∙ a)) l
 
-  says : (n k : ℕ) → Says n k (numberedIn r image start ring x n k)
-  unfolding numberedIn Says
+  says : (n k : ℕ) → Says n k (numbered_in r image start ring x n k)
+  unfolding numbered_in Says
   says zero k = λ j o h t a e. omega arith
-  says (suc n) k = says_first n k (acceptedAt r image ring (blockPlace r start k)) (numberedIn r image start ring x n (k + 1)) refl (says n (k + 1))
+  says (suc n) k = says_first n k (accepted_at r image ring (block_place r start k)) (numbered_in r image start ring x n (k + 1)) refl (says n (k + 1))
 
-  pub numbered_of : (n k : ℕ) (sb : Superblock) → numberedIn r image start ring x n k ≡ some sb → NumberedOf n k sb
+  pub numbered_of_lem : (n k : ℕ) (sb : Superblock) → numbered_in r image start ring x n k ≡ some sb → NumberedOf n k sb
   unfolding Says
-  numbered_of n k sb e = rw e at (says n k)
+  numbered_of_lem n k sb e = rw e at (says n k)
 
-  pub unnumbered-of : (n k : ℕ) → numberedIn r image start ring x n k ≡ none → NoneOf n k
+  pub unnumbered_of : (n k : ℕ) → numbered_in r image start ring x n k ≡ none → NoneOf n k
   unfolding Says
-  unnumbered-of n k e = rw e at (says n k)
+  unnumbered_of n k e = rw e at (says n k)

@@ -11,56 +11,56 @@ use native.Mathlib.Omega.{arith}
 use borrow.Author.Rules.{rules}
 use Rattle.error.proofs.Laws.{same, other}
 use Rattle.obj.specs.declared.reader.Reader.{Reader}
-use Rattle.checkpoints.specs.Maps.{mapTold, checkpointMapAt, goesOn, mapsFrom, mapsFit}
+use Rattle.checkpoints.specs.Maps.{map_told, checkpoint_map_at, goes_on, maps_from, maps_fit}
 use Rattle.checkpoints.specs.declared.superblock.Descriptors.{Descriptors}
 use Rattle.checkpoints.specs.declared.maps.MapTest.{MapTest}
 
 module _ (r : Reader) (image : List ℕ) (d : Descriptors) (xid ring : ℕ) where
   maps : ℕ → ℕ → Bool
-  maps n k = mapsFrom r image d xid ring n k
+  maps n k = maps_from r image d xid ring n k
 
   -- a map's answer goes by its place on the ring
-  around : (k : ℕ) → checkpointMapAt r image d xid ring k ≡ checkpointMapAt r image d xid ring (k % ring)
-  unfolding checkpointMapAt
+  around : (k : ℕ) → checkpoint_map_at r image d xid ring k ≡ checkpoint_map_at r image d xid ring (k % ring)
+  unfolding checkpoint_map_at
   around k = rw (← add-mod-mod d.index k ring)
 
   -- n maps from the k-th on, each with others after it
   More : ℕ → ℕ → Type 0
-  More n k = (i : ℕ) → i < n → checkpointMapAt r image d xid ring (k + i) ≡ some false
+  More n k = (i : ℕ) → i < n → checkpoint_map_at r image d xid ring (k + i) ≡ some false
 
-  first-too : (n k : ℕ) → checkpointMapAt r image d xid ring k ≡ some false → More n (k + 1) → More (suc n) k
+  first_too : (n k : ℕ) → checkpoint_map_at r image d xid ring k ≡ some false → More n (k + 1) → More (suc n) k
   unfolding More
-  first-too n k e h zero t = rw (add-zero) e
-  first-too n k e h (suc i) t = let q : k + suc i ≡ k + 1 + i = omega arith in rw q (h i (omega arith))
+  first_too n k e h zero t = rw (add-zero) e
+  first_too n k e h (suc i) t = let q : k + suc i ≡ k + 1 + i = omega arith in rw q (h i (omega arith))
 
-  one : (n k : ℕ) → maps (suc n) k ≡ goesOn (checkpointMapAt r image d xid ring k) (maps n (k + 1))
-  unfolding maps mapsFrom
+  one : (n k : ℕ) → maps (suc n) k ≡ goes_on (checkpoint_map_at r image d xid ring k) (maps n (k + 1))
+  unfolding maps maps_from
   one n k = refl
 
-  after : (a : Option Bool) (x y : Bool) → (a ≡ some false → x ≡ y) → goesOn a x ≡ goesOn a y
+  after : (a : Option Bool) (x y : Bool) → (a ≡ some false → x ≡ y) → goes_on a x ≡ goes_on a y
   after (some true) x y h = refl
   after (some false) x y h = h refl
   after none x y h = refl
 
-  longer : (n j k : ℕ) → (checkpointMapAt r image d xid ring k ≡ some false → maps (n + j) (k + 1) ≡ maps n (k + 1)) → maps (suc n + j) k ≡ maps (suc n) k
-  longer n j k h = rw suc-add (one (n + j) k ∙ (after (checkpointMapAt r image d xid ring k) _ _ h ∙ sym (one n k)))
+  longer : (n j k : ℕ) → (checkpoint_map_at r image d xid ring k ≡ some false → maps (n + j) (k + 1) ≡ maps n (k + 1)) → maps (suc n + j) k ≡ maps (suc n) k
+  longer n j k h = rw suc-add (one (n + j) k ∙ (after (checkpoint_map_at r image d xid ring k) _ _ h ∙ sym (one n k)))
 
   -- either all of n maps have others after them, or what comes after them does not count
   decided : (n k : ℕ) → More n k ⊎ ((j : ℕ) → maps (n + j) k ≡ maps n k)
   unfolding More
   decided zero k = inl (λ i t. absurd (omega arith))
-  decided (suc n) k = of (checkpointMapAt r image d xid ring k) refl (decided n (k + 1))
+  decided (suc n) k = of (checkpoint_map_at r image d xid ring k) refl (decided n (k + 1))
     where
-      of : (a : Option Bool) → checkpointMapAt r image d xid ring k ≡ a →
+      of : (a : Option Bool) → checkpoint_map_at r image d xid ring k ≡ a →
           (More n (k + 1) ⊎ ((j : ℕ) → maps (n + j) (k + 1) ≡ maps n (k + 1))) →
           More (suc n) k ⊎ ((j : ℕ) → maps (suc n + j) k ≡ maps (suc n) k)
       of (some true) e h = inr (λ j. longer n j k (λ q. absurd (let z : ◌≡◌ {A = ℕ} 0 1 = cc in omega arith)))
-      of (some false) e h = ⊎_elim (λ m. inl (first-too n k e m)) (λ f. inr (λ j. longer n j k (λ q. f j))) h
+      of (some false) e h = ⊎_elim (λ m. inl (first_too n k e m)) (λ f. inr (λ j. longer n j k (λ q. f j))) h
       of none e h = inr (λ j. longer n j k (λ q. absurd (let z : ◌≡◌ {A = ℕ} 0 1 = cc in omega arith)))
 
   -- where every map has others after it, any number of them is accepted
-  endless : ((k : ℕ) → checkpointMapAt r image d xid ring k ≡ some false) → (n k : ℕ) → maps n k ≡ true
-  unfolding maps mapsFrom
+  endless : ((k : ℕ) → checkpoint_map_at r image d xid ring k ≡ some false) → (n k : ℕ) → maps n k ≡ true
+  unfolding maps maps_from
   endless f zero k = refl
   endless f (suc n) k = rw (f k) (endless f n (k + 1))
 
@@ -70,48 +70,48 @@ module _ (r : Reader) (image : List ℕ) (d : Descriptors) (xid ring : ℕ) wher
     round n h =
         ⊎_elim
         (λ m.
-        let f : (k : ℕ) → checkpointMapAt r image d xid ring k ≡ some false = λ k. rw (around k, ← zero-add (k % ring)) (m (k % ring) (mod-lt k positive)) in
+        let f : (k : ℕ) → checkpoint_map_at r image d xid ring k ≡ some false = λ k. rw (around k, ← zero-add (k % ring)) (m (k % ring) (mod-lt k positive)) in
         endless f n 0 ∙ sym (endless f ring 0))
         (λ g. let q : n ≡ ring + (n - ring) = omega arith in rw q (g (n - ring)))
         (decided ring 0)
 
     -- testing no more than the ring's blocks is enough
-    pub enough : (n : ℕ) → n ≡ min (d.len - 1) ring → mapsFrom r image d xid ring n 0 ≡ mapsFit r image d xid ring
-    unfolding mapsFit maps
+    pub enough : (n : ℕ) → n ≡ min (d.len - 1) ring → maps_from r image d xid ring n 0 ≡ maps_fit r image d xid ring
+    unfolding maps_fit maps
     enough n e = of (dec_le ring (d.len - 1))
       where
-        whole : mapsFrom r image d xid ring (d.len - 1) 0 ≡ mapsFit r image d xid ring
+        whole : maps_from r image d xid ring (d.len - 1) 0 ≡ maps_fit r image d xid ring
         whole = other _ _ _ _ _ (λ z. omega arith) refl
 
-        of : Dec (ring ≤ d.len - 1) → mapsFrom r image d xid ring n 0 ≡ mapsFit r image d xid ring
+        of : Dec (ring ≤ d.len - 1) → maps_from r image d xid ring n 0 ≡ maps_fit r image d xid ring
         of (Dec.yes h) = let q : n ≡ ring = omega arith in rw q (sym (round (d.len - 1) h) ∙ whole)
         of (Dec.no h) = let q : n ≡ d.len - 1 = omega arith in rw q whole
 
-  pub no-ring : ring ≡ 0 → true ≡ mapsFit r image d xid ring
-  unfolding mapsFit
-  no-ring h = same _ _ _ _ _ h refl
+  pub no_ring : ring ≡ 0 → true ≡ maps_fit r image d xid ring
+  unfolding maps_fit
+  no_ring h = same _ _ _ _ _ h refl
 
   -- a turn of the loop
-  module _ (n k : ℕ) (whole : Bool) (p : mapsFrom r image d xid ring (n - k) k ≡ whole) where
-    pub maps-done : n ≤ k → true ≡ whole
-    unfolding mapsFrom
-    maps-done h = let q : n - k ≡ 0 = omega arith in rw q at p
+  module _ (n k : ℕ) (whole : Bool) (p : maps_from r image d xid ring (n - k) k ≡ whole) where
+    pub maps_done : n ≤ k → true ≡ whole
+    unfolding maps_from
+    maps_done h = let q : n - k ≡ 0 = omega arith in rw q at p
 
-    module _ (h : k < n) (x : MapTest) (e : mapTold x ≡ checkpointMapAt r image d xid ring k) where
-      turn : goesOn (mapTold x) (mapsFrom r image d xid ring (n - (k + 1)) (k + 1)) ≡ whole
-      unfolding mapsFrom
+    module _ (h : k < n) (x : MapTest) (e : map_told x ≡ checkpoint_map_at r image d xid ring k) where
+      turn : goes_on (map_told x) (maps_from r image d xid ring (n - (k + 1)) (k + 1)) ≡ whole
+      unfolding maps_from
       turn = let q : n - k ≡ suc (n - (k + 1)) = omega arith in rw e (rw q at p)
 
-      pub maps-last : x ≡ MapTest.Last → true ≡ whole
-      maps-last q = rw q at turn
+      pub maps_last : x ≡ MapTest.Last → true ≡ whole
+      maps_last q = rw q at turn
 
-      pub maps-more : x ≡ MapTest.More → mapsFrom r image d xid ring (n - (k + 1)) (k + 1) ≡ whole
-      maps-more q = rw q at turn
+      pub maps_more : x ≡ MapTest.More → maps_from r image d xid ring (n - (k + 1)) (k + 1) ≡ whole
+      maps_more q = rw q at turn
 
-      pub maps-no : x ≡ MapTest.No → false ≡ whole
-      maps-no q = rw q at turn
+      pub maps_no : x ≡ MapTest.No → false ≡ whole
+      maps_no q = rw q at turn
 
-pub maps-start : (r : Reader) (image : List ℕ) (d : Descriptors) (xid ring n : ℕ) → (ring ≡ 0 → ⊥) → n ≡ min (d.len - 1) ring → mapsFrom r image d xid ring (n - 0) 0 ≡ mapsFit r image d xid ring
-maps-start r image d xid ring n h e = rw sub-zero (enough r image d xid ring (omega arith) n e)
+pub maps_start : (r : Reader) (image : List ℕ) (d : Descriptors) (xid ring n : ℕ) → (ring ≡ 0 → ⊥) → n ≡ min (d.len - 1) ring → maps_from r image d xid ring (n - 0) 0 ≡ maps_fit r image d xid ring
+maps_start r image d xid ring n h e = rw sub-zero (enough r image d xid ring (omega arith) n e)
 
-pub ruleset rings = (rules, no-ring, maps-start, maps-done, maps-last, maps-more, maps-no)
+pub ruleset rings = (rules, no_ring, maps_start, maps_done, maps_last, maps_more, maps_no)

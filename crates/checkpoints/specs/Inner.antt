@@ -1,9 +1,9 @@
 -- The shape of the ring's loop, for its proof: what is known of a block that is passed over. A buyer may pass over this file: what the loop answers is
--- proved equal to `latestIn` (specs/Checkpoint.antt), whatever it passes over.
+-- proved equal to `latest_in` (specs/Checkpoint.antt), whatever it passes over.
 use Rattle.std.specs.Prelude.{ℕ, ◌<◌, Bool, true, false, List, ◌≡◌, eqb}
 use Rattle.std.proofs.Math.Option.{Option, some}
 use Rattle.error.specs.Answer.{Answer, got, no}
-use Rattle.bytes.specs.Number.{number_at}
+use Rattle.byte_fields.specs.Number.{number_at}
 use Rattle.checkpoints.specs.declared.superblock.Superblock.{Superblock}
 
 -- r is true only where the block's transaction number is below the checkpoint's

@@ -2,8 +2,8 @@
 use Rattle.std.specs.Prelude.{ℕ, List}
 use Rattle.std.proofs.Math.Option.{Option, none, some}
 use Rattle.error.specs.Answer.{Answer, got, no}
-use Rattle.bytes.specs.Number.{number_at}
-use Rattle.bytes.specs.declared.Span.{Span}
+use Rattle.byte_fields.specs.Number.{number_at}
+use Rattle.byte_fields.specs.declared.Span.{Span}
 use Rattle.checkpoints.specs.Known.{known, ◌>>?◌}
 use Rattle.checkpoints.specs.declared.superblock.Descriptors.{Descriptors}
 use Rattle.checkpoints.specs.declared.superblock.Described.{Described}
@@ -14,21 +14,21 @@ use Rattle.checkpoints.specs.declared.superblock.Found.TheVariants as found
 use Rattle.checkpoints.specs.declared.superblock.Superblocked.{Superblocked}
 use Rattle.checkpoints.specs.declared.superblock.Superblocked.TheVariants.{Got, No}
 
-abbrev pub describedTold : Described → Option Descriptors
-describedTold (described.Got d) = some d
-describedTold described.Nothing = none
+abbrev pub described_told : Described → Option Descriptors
+described_told (described.Got d) = some d
+described_told described.Nothing = none
 
-abbrev pub foundTold : Found → Option Superblock
-foundTold (found.Got s) = some s
-foundTold found.Nothing = none
+abbrev pub found_told : Found → Option Superblock
+found_told (found.Got s) = some s
+found_told found.Nothing = none
 
-abbrev pub superTold : Superblocked → Answer Superblock
-superTold (Got s) = got s
-superTold (No e) = no e
+abbrev pub super_told : Superblocked → Answer Superblock
+super_told (Got s) = got s
+super_told (No e) = no e
 
 -- nx_xp_desc_blocks, nx_xp_desc_base, nx_xp_desc_index, nx_xp_desc_len
-unfoldable pub descriptorsAt : List ℕ → Option Descriptors
-descriptorsAt b =
+unfoldable pub descriptors_at : List ℕ → Option Descriptors
+descriptors_at b =
     known (number_at 4 b 104) >>? λ blocks.
     known (number_at 8 b 112) >>? λ base.
     known (number_at 4 b 136) >>? λ index.
@@ -36,11 +36,11 @@ descriptorsAt b =
     some (record { blocks = blocks; base = base; index = index; len = len })
 
 -- o_xid, nx_incompatible_features, nx_omap_oid, nx_max_file_systems
-unfoldable pub superblockAt : List ℕ → Span → Option Superblock
-superblockAt b place =
+unfoldable pub superblock_at : List ℕ → Span → Option Superblock
+superblock_at b place =
     known (number_at 8 b 16) >>? λ xid.
     known (number_at 8 b 64) >>? λ incompat.
     known (number_at 8 b 160) >>? λ omap.
     known (number_at 4 b 180) >>? λ volumes.
-    descriptorsAt b >>? λ d.
+    descriptors_at b >>? λ d.
     some (record { place = place; xid = xid; incompat = incompat; omap_oid = omap; max_volumes = volumes; descriptors = d })

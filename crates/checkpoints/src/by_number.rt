@@ -1,15 +1,15 @@
 // An earlier checkpoint, by its transaction number: document 02, request 04.
 ghost use Rattle.std.specs.Prelude.{◌≡◌, ◌+◌, ◌*◌, ◌^◌, ◌<◌};
-ghost use Rattle.bytes.specs.Number.{number_at};
-ghost use Rattle.checkpoints.specs.Superblock.{foundTold, superTold};
-ghost use Rattle.checkpoints.specs.Checkpoint.{acceptedAt};
-ghost use Rattle.checkpoints.specs.Numbers.{ofNumber, numberedIn, numberedOf, checkpointBy};
+ghost use Rattle.byte_fields.specs.Number.{number_at};
+ghost use Rattle.checkpoints.specs.Superblock.{found_told, super_told};
+ghost use Rattle.checkpoints.specs.Checkpoint.{accepted_at};
+ghost use Rattle.checkpoints.specs.Numbers.{of_number, numbered_in, numbered_of, checkpoint_by};
 ghost use Rattle.checkpoints.specs.Inner.{is_number};
 
 use crate::accepted::{accepted_at, block_place};
 use crate::checkpoint::checkpoint_of;
 use crate::superblock::{Found, Superblocked};
-use bytes::{Number, Span, part, u64_at};
+use byte_fields::{Number, Span, part, u64_at};
 use error::Refusal;
 use geometry::{Geometry, area_at};
 use obj::Reader;
@@ -32,7 +32,7 @@ fn has_number(b: &[u8], xid: u64) -> bool
 
 // A block of another number is passed over before its checksum is looked at.
 fn numbered_at(reader: Reader, image: &[u8], place: Span, ring: u32, xid: u64) -> Found
-    ensures { foundTold result ≡ ofNumber xid (acceptedAt reader image.now ring place) }
+    ensures { found_told result ≡ of_number xid (accepted_at reader image.now ring place) }
 {
     if has_number(part(image, place), xid) {
         return accepted_at(reader, image, place, ring);
@@ -43,7 +43,7 @@ fn numbered_at(reader: Reader, image: &[u8], place: Span, ring: u32, xid: u64) -
 // The earliest accepted block of a number on a ring that starts at a byte of the image.
 fn numbered_checkpoint(reader: Reader, image: &[u8], start: u64, ring: u32, xid: u64) -> Found
     requires { start + ring * reader.block_size < 2 ^ 64 }
-    ensures { foundTold result ≡ numberedIn reader image.now start ring xid ring 0 }
+    ensures { found_told result ≡ numbered_in reader image.now start ring xid ring 0 }
 {
     let mut i: u32 = 0;
     while i < ring {
@@ -63,7 +63,7 @@ fn numbered_checkpoint(reader: Reader, image: &[u8], start: u64, ring: u32, xid:
 }
 
 fn numbered_of(image: &[u8], g: Geometry, xid: u64) -> Superblocked
-    ensures { superTold result ≡ numberedOf xid image.now g }
+    ensures { super_told result ≡ numbered_of xid image.now g }
 {
     match area_at(image.len(), g) {
         Number::Got(start) => match numbered_checkpoint(g.reader, image, start, g.ring, xid) {
@@ -76,7 +76,7 @@ fn numbered_of(image: &[u8], g: Geometry, xid: u64) -> Superblocked
 
 // The checkpoint that is chosen, of a container whose block 0 gives g.
 pub fn checkpoint_by(image: &[u8], g: Geometry, choice: Choice) -> Superblocked
-    ensures { superTold result ≡ checkpointBy choice image.now g }
+    ensures { super_told result ≡ checkpoint_by choice image.now g }
 {
     match choice {
         Choice::Latest => checkpoint_of(image, g),

@@ -1,19 +1,19 @@
 // The latest checkpoint of a container.
 ghost use Rattle.std.specs.Prelude.{◌≡◌, ◌+◌, ◌*◌, ◌^◌, ◌<◌};
-ghost use Rattle.checkpoints.specs.Superblock.{foundTold, superTold};
-ghost use Rattle.checkpoints.specs.Checkpoint.{acceptedAt, prefer, latestIn, checkpointOf};
+ghost use Rattle.checkpoints.specs.Superblock.{found_told, super_told};
+ghost use Rattle.checkpoints.specs.Checkpoint.{accepted_at, prefer, latest_in, checkpoint_of};
 ghost use Rattle.checkpoints.specs.Inner.{Older};
 
 use crate::accepted::{accepted_at, block_place};
 use crate::superblock::{Found, Superblocked};
-use bytes::{Number, Span, part, u64_at};
+use byte_fields::{Number, Span, part, u64_at};
 use error::Refusal;
 use geometry::{Geometry, area_at};
 use obj::Reader;
 
 // Whether the block's transaction number is below that of a checkpoint that was taken already.
 fn is_older(b: &[u8], best: Found) -> bool
-    ensures { Older b.now (foundTold best) result }
+    ensures { Older b.now (found_told best) result }
 {
     match best {
         Found::Got(sb) => match u64_at(b, 16) {
@@ -26,7 +26,7 @@ fn is_older(b: &[u8], best: Found) -> bool
 
 // The better of a block and what was taken of the blocks after it.
 fn consider(reader: Reader, image: &[u8], place: Span, ring: u32, best: Found) -> Found
-    ensures { foundTold result ≡ prefer (acceptedAt reader image.now ring place) (foundTold best) }
+    ensures { found_told result ≡ prefer (accepted_at reader image.now ring place) (found_told best) }
 {
     if is_older(part(image, place), best) {
         return best;
@@ -49,7 +49,7 @@ fn consider(reader: Reader, image: &[u8], place: Span, ring: u32, best: Found) -
 // The ring is gone through backwards: a block older than what was taken is passed over before its checksum is looked at.
 fn latest_checkpoint(reader: Reader, image: &[u8], start: u64, ring: u32) -> Found
     requires { start + ring * reader.block_size < 2 ^ 64 }
-    ensures { foundTold result ≡ latestIn reader image.now start ring ring 0 }
+    ensures { found_told result ≡ latest_in reader image.now start ring ring 0 }
 {
     let mut best = Found::Nothing;
     let mut i = ring;
@@ -68,7 +68,7 @@ fn latest_checkpoint(reader: Reader, image: &[u8], start: u64, ring: u32) -> Fou
 
 // The checkpoint of a container whose block 0 gives g.
 pub fn checkpoint_of(image: &[u8], g: Geometry) -> Superblocked
-    ensures { superTold result ≡ checkpointOf image.now g }
+    ensures { super_told result ≡ checkpoint_of image.now g }
 {
     match area_at(image.len(), g) {
         Number::Got(start) => match latest_checkpoint(g.reader, image, start, g.ring) {

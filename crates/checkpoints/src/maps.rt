@@ -1,10 +1,10 @@
 // The checkpoint maps of a candidate.
 ghost use Rattle.std.specs.Prelude.{◌≡◌, ◌-◌, ◌<◌, min};
-ghost use Rattle.checkpoints.specs.Maps.{mapTold, entriesHeld, entriesIn, checkpointMapIn, checkpointMapAt, mapsFit};
+ghost use Rattle.checkpoints.specs.Maps.{map_told, entries_held, entries_in, checkpoint_map_in, checkpoint_map_at, maps_fit};
 
 use crate::superblock::Descriptors;
 use arith::sum;
-use bytes::{Number, Sliced, part, u32_at};
+use byte_fields::{Number, Sliced, part, u32_at};
 use obj::{Parsed, Reader};
 
 // What a checkpoint map's block is: the last one, one before others, or none.
@@ -17,7 +17,7 @@ pub enum MapTest {
 
 // A map of `count` entries, 40 bytes each, in a block of `size` bytes.
 fn map_of(size: usize, flags: u32, count: u32) -> MapTest
-    ensures { mapTold result ≡ entriesHeld size flags count }
+    ensures { map_told result ≡ entries_held size flags count }
 {
     if size < 40 + 40 * count as usize {
         return MapTest::No;
@@ -29,7 +29,7 @@ fn map_of(size: usize, flags: u32, count: u32) -> MapTest
 }
 
 fn map_counted(b: &[u8]) -> MapTest
-    ensures { mapTold result ≡ entriesIn b.now }
+    ensures { map_told result ≡ entries_in b.now }
 {
     match u32_at(b, 32) {
         Number::Got(flags) => match u32_at(b, 36) {
@@ -41,7 +41,7 @@ fn map_counted(b: &[u8]) -> MapTest
 }
 
 fn map_in(b: &[u8], xid: u64) -> MapTest
-    ensures { mapTold result ≡ checkpointMapIn b.now xid }
+    ensures { map_told result ≡ checkpoint_map_in b.now xid }
 {
     match obj::parse(b) {
         Parsed::Got(h) => {
@@ -60,7 +60,7 @@ fn map_in(b: &[u8], xid: u64) -> MapTest
 // The k-th map of a candidate, on a ring of blocks.
 fn map_at(reader: Reader, image: &[u8], d: Descriptors, xid: u64, ring: u32, k: u32) -> MapTest
     requires { 0 < ring }
-    ensures { mapTold result ≡ checkpointMapAt reader image.now d xid ring k }
+    ensures { map_told result ≡ checkpoint_map_at reader image.now d xid ring k }
 {
     match sum(d.base, (d.index as u64 + k as u64) % (ring as u64)) {
         Number::Got(paddr) => match reader.read_object(image, paddr) {
@@ -86,7 +86,7 @@ fn tested(len: u32, ring: u32) -> u32
 
 // Whether a candidate's maps are all there.
 pub fn maps_fit(reader: Reader, image: &[u8], d: Descriptors, xid: u64, ring: u32) -> bool
-    ensures { result ≡ mapsFit reader image.now d xid ring }
+    ensures { result ≡ maps_fit reader image.now d xid ring }
 {
     if ring == 0 {
         return true;

@@ -1,8 +1,8 @@
 // The fields of a superblock that opening reads.
 ghost use Rattle.std.specs.Prelude.{◌≡◌};
-ghost use Rattle.checkpoints.specs.Superblock.{describedTold, descriptorsAt, foundTold, superblockAt};
+ghost use Rattle.checkpoints.specs.Superblock.{described_told, descriptors_at, found_told, superblock_at};
 
-use bytes::{Number, Span, u32_at, u64_at};
+use byte_fields::{Number, Span, u32_at, u64_at};
 use error::Refusal;
 
 // Where a checkpoint says that its own descriptor blocks lie. The ring that they lie on has the length that block 0 gives, whatever `blocks` is.
@@ -44,7 +44,7 @@ pub enum Superblocked {
 }
 
 fn descriptors_at(b: &[u8]) -> Described
-    ensures { describedTold result ≡ descriptorsAt b.now }
+    ensures { described_told result ≡ descriptors_at b.now }
 {
     let blocks = match u32_at(b, 104) {
         Number::Got(x) => x,
@@ -71,7 +71,7 @@ fn descriptors_at(b: &[u8]) -> Described
 
 // The superblock in the bytes of a block that lies at a place of the image.
 pub fn superblock_at(b: &[u8], place: Span) -> Found
-    ensures { foundTold result ≡ superblockAt b.now place }
+    ensures { found_told result ≡ superblock_at b.now place }
 {
     let xid = match u64_at(b, 16) {
         Number::Got(x) => x,

@@ -1,8 +1,8 @@
 -- How the words are added up: a buyer may pass over this file. What goes from one chunk of words to the next (`carried`), and the four lanes that
 -- the words of a chunk go to in turn (`joint`); both sums of all words so added are proved to be `s1` and `s2` of Fletcher.antt, modulo M
--- (`from-sums`, proofs/Laws.antt).
+-- (`from_sums`, proofs/Laws.antt).
 use Rattle.std.specs.Prelude.{ℕ, ◌+◌, ◌-◌, ◌*◌, ◌%◌, ◌<◌, List}
-use Rattle.bytes.specs.Number.{little}
+use Rattle.byte_fields.specs.Number.{little}
 use Rattle.checksum.specs.Fletcher.{M, sum, running}
 use Rattle.checksum.specs.declared.Sums.{Sums}
 use Rattle.checksum.specs.declared.Four.{Four}
@@ -22,34 +22,34 @@ unfoldable pub carried : Sums → List ℕ → Sums
 carried s ws = record { s1 = (s.s1 + sum ws) % M; s2 = (s.s2 + sum (running s.s1 ws)) % M }
 
 -- the four words from byte off on
-abbrev pub fourAt : List ℕ → ℕ → Four
-fourAt b off = record { w = little 4 b off; x = little 4 b (off + 4); y = little 4 b (off + 8); z = little 4 b (off + 12) }
+abbrev pub four_at : List ℕ → ℕ → Four
+four_at b off = record { w = little 4 b off; x = little 4 b (off + 4); y = little 4 b (off + 8); z = little 4 b (off + 12) }
 
-abbrev pub plusOf : Four → Four → Four
-plusOf a b = record { w = a.w + b.w; x = a.x + b.x; y = a.y + b.y; z = a.z + b.z }
+abbrev pub plus_of : Four → Four → Four
+plus_of a b = record { w = a.w + b.w; x = a.x + b.x; y = a.y + b.y; z = a.z + b.z }
 
 abbrev pub total_of : Four → ℕ
 total_of a = a.w + a.x + a.y + a.z
 
-abbrev pub excessOf : Four → ℕ
-excessOf a = a.x + 2 * a.y + 3 * a.z
+abbrev pub excess_of : Four → ℕ
+excess_of a = a.x + 2 * a.y + 3 * a.z
 
 pub record Below (k : ℕ) (a : Four) : Type 0 where
-  pub of-w : a.w < k
-  pub of-x : a.x < k
-  pub of-y : a.y < k
-  pub of-z : a.z < k
+  pub of_w : a.w < k
+  pub of_x : a.x < k
+  pub of_y : a.y < k
+  pub of_z_lem : a.z < k
 
 -- no sum of the lanes is near 2^64
 pub record Roomy (l : Lanes) : Type 0 where
-  pub of-sums : Below 281474976710656 l.sums
-  pub of-seconds : Below 288230376151711744 l.seconds
+  pub of_sums : Below 281474976710656 l.sums
+  pub of_seconds : Below 288230376151711744 l.seconds
 
 -- a word more in each lane
-abbrev pub withFour : Lanes → Four → Lanes
-withFour l f = record { sums = plusOf l.sums f; seconds = plusOf l.seconds (plusOf l.sums f) }
+abbrev pub with_four : Lanes → Four → Lanes
+with_four l f = record { sums = plus_of l.sums f; seconds = plus_of l.seconds (plus_of l.sums f) }
 
 -- both sums that the lanes stand for, where the second began with c: each word of a lane is followed by as many fewer
 -- words of its own four as there are lanes before its own
 abbrev pub joint : ℕ → Lanes → Sums
-joint c l = record { s1 = total_of l.sums; s2 = c + 4 * total_of l.seconds - excessOf l.sums }
+joint c l = record { s1 = total_of l.sums; s2 = c + 4 * total_of l.seconds - excess_of l.sums }

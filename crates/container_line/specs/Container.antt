@@ -5,26 +5,26 @@ use Rattle.text.specs.Words.{ascii, digits, words}
 use Rattle.lookup.specs.Counted.{Counted, after, onto}
 use Rattle.checkpoints.specs.declared.by_number.Choice.{Choice}
 use Rattle.nx.specs.Open.{open_at}
-use Rattle.nx.specs.Slots.{volumesOf}
+use Rattle.nx.specs.Slots.{volumes_of}
 use Rattle.nx.specs.declared.container.Container.{Container}
 
 -- numbers, each after a space
-unfoldable pub numberWords : List ℕ → List ℕ → List ℕ
-numberWords [] x = x
-numberWords (n ∷ ns) x = ascii " " (digits n (numberWords ns x))
+unfoldable pub number_words : List ℕ → List ℕ → List ℕ
+number_words [] x = x
+number_words (n ∷ ns) x = ascii " " (digits n (number_words ns x))
 
-unfoldable pub containerHead : ℕ → ℕ → ℕ → List ℕ → List ℕ
-containerHead size count xid x = ascii "(container" (words (digits size ∷ digits count ∷ digits xid ∷ []) x)
+unfoldable pub container_head : ℕ → ℕ → ℕ → List ℕ → List ℕ
+container_head size count xid x = ascii "(container" (words (digits size ∷ digits count ∷ digits xid ∷ []) x)
 
-unfoldable pub containerText : List ℕ → Container → List ℕ → List ℕ
-containerText image c x =
-    containerHead c.reader.block_size c.reader.block_count c.sb.xid
-    (numberWords (volumesOf image c.sb) (ascii ")\n" x))
+unfoldable pub container_text : List ℕ → Container → List ℕ → List ℕ
+container_text image c x =
+    container_head c.reader.block_size c.reader.block_count c.sb.xid
+    (number_words (volumes_of image c.sb) (ascii ")\n" x))
 
 -- the line of a container, with the nodes gone through: document 02, request 06
-unfoldable pub openCounted : Choice → List ℕ → Counted (List ℕ)
-openCounted choice image = onto (open_at choice image) λ c s. after s (got (containerText image c []))
+unfoldable pub open_counted : Choice → List ℕ → Counted (List ℕ)
+open_counted choice image = onto (open_at choice image) λ c s. after s (got (container_text image c []))
 
 -- what `apfs_open` answers
-abbrev pub openText : Choice → List ℕ → Answer (List ℕ)
-openText choice image = (openCounted choice image).answer
+abbrev pub open_text : Choice → List ℕ → Answer (List ℕ)
+open_text choice image = (open_counted choice image).answer

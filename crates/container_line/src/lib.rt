@@ -1,10 +1,10 @@
 // The line of a container that is opened.
 ghost use Rattle.std.specs.Prelude.{◌≡◌, [], ◌∷◌};
-ghost use Rattle.text.specs.Output.{outputOf, puts};
+ghost use Rattle.text.specs.Output.{output_of, puts};
 ghost use Rattle.text.specs.Words.{digits};
-ghost use Rattle.nx.specs.Slots.{volumesOf};
-ghost use Rattle.calls.specs.Filled.{filledAt, filled, calledBy, answered};
-ghost use Rattle.container_line.specs.Container.{numberWords, containerHead, containerText, openCounted};
+ghost use Rattle.nx.specs.Slots.{volumes_of};
+ghost use Rattle.calls.specs.Filled.{filled_at, filled, called_by, answered};
+ghost use Rattle.container_line.specs.Container.{number_words, container_head, container_text, open_counted};
 
 use calls::Progress;
 use checkpoints::{Choice, Superblock};
@@ -13,7 +13,7 @@ use text::{Position, put_all, put_byte, put_decimal};
 
 // A number after a space.
 fn put_word(out: &mut [u8], room: usize, p: Position, n: u64) -> Position
-    ensures { outputOf result out.new ≡ puts room (32 ∷ digits n []) (outputOf p out.old) }
+    ensures { output_of result out.new ≡ puts room (32 ∷ digits n []) (output_of p out.old) }
 {
     let q = put_byte(out, room, p, 32);
     put_decimal(out, room, q, n)
@@ -21,7 +21,7 @@ fn put_word(out: &mut [u8], room: usize, p: Position, n: u64) -> Position
 
 // The object ids of the volumes, each after a space.
 fn put_volumes(out: &mut [u8], room: usize, p: Position, image: &[u8], sb: Superblock) -> Position
-    ensures { outputOf result out.new ≡ puts room (numberWords (volumesOf image.now sb) []) (outputOf p out.old) }
+    ensures { output_of result out.new ≡ puts room (number_words (volumes_of image.now sb) []) (output_of p out.old) }
 {
     let n = slot_count(sb);
     let mut q = p;
@@ -38,7 +38,7 @@ fn put_volumes(out: &mut [u8], room: usize, p: Position, image: &[u8], sb: Super
 }
 
 fn put_head(out: &mut [u8], room: usize, p: Position, size: u64, count: u64, xid: u64) -> Position
-    ensures { outputOf result out.new ≡ puts room (containerHead size count xid []) (outputOf p out.old) }
+    ensures { output_of result out.new ≡ puts room (container_head size count xid []) (output_of p out.old) }
 {
     let a = put_all(out, room, p, b"(container");
     let b = put_word(out, room, a, size);
@@ -47,7 +47,7 @@ fn put_head(out: &mut [u8], room: usize, p: Position, size: u64, count: u64, xid
 }
 
 fn put_container(out: &mut [u8], room: usize, p: Position, image: &[u8], c: Container) -> Position
-    ensures { outputOf result out.new ≡ puts room (containerText image.now c []) (outputOf p out.old) }
+    ensures { output_of result out.new ≡ puts room (container_text image.now c []) (output_of p out.old) }
 {
     let sb = c.sb;
     let reader = c.reader;
@@ -65,7 +65,7 @@ fn put_container(out: &mut [u8], room: usize, p: Position, image: &[u8], c: Cont
 
 // Measured first: a buffer that is too short is left as it was.
 fn show(image: &[u8], c: Container, out: &mut [u8]) -> Position
-    ensures { filledAt result out.new ≡ filled (containerText image.now c []) out.old }
+    ensures { filled_at result out.new ≡ filled (container_text image.now c []) out.old }
 {
     let room = out.len();
     match put_container(&mut out[..0], room, Position::At(0), image, c) {
@@ -75,7 +75,7 @@ fn show(image: &[u8], c: Container, out: &mut [u8]) -> Position
 }
 
 pub fn open_line(image: &[u8], choice: Choice, out: &mut [u8]) -> Progress
-    ensures { calledBy result out.new ≡ answered (openCounted choice image.now) out.old }
+    ensures { called_by result out.new ≡ answered (open_counted choice image.now) out.old }
 {
     let opened = nx::open(image, choice);
     let container = opened.container;

@@ -4,8 +4,8 @@ use Rattle.lookup.specs.Counted.{Counted, after, onto}
 use Rattle.volume.specs.declared.Volume.{Volume}
 use Rattle.inode_record.specs.declared.inode.Inode.{Inode}
 use Rattle.extents.specs.Verdict.{fine}
-use Rattle.files.specs.File.{readPlain}
+use Rattle.files.specs.File.{read_plain}
 
 -- whether reading the whole of a file that is not compressed is refused
-unfoldable pub settledWhole : List ℕ → Volume → Inode → ℕ → Counted (Unit {0})
-settledWhole b v i s = onto (readPlain b v i s) λ bs t. after t fine
+unfoldable pub settled_whole : List ℕ → Volume → Inode → ℕ → Counted (Unit {0})
+settled_whole b v i s = onto (read_plain b v i s) λ bs t. after t fine

@@ -1,10 +1,10 @@
 // Whether the whole of a file can be read, as the listing reads it: no extent may start before the end of the one before it.
 ghost use Rattle.std.specs.Prelude.{◌≡◌};
 ghost use Rattle.extents.specs.Ruling.{ruled};
-ghost use Rattle.streams.specs.Streams.{settledTold};
+ghost use Rattle.streams.specs.Streams.{settled_told};
 ghost use Rattle.cursor.specs.Left.{run_at};
-ghost use Rattle.lists.specs.Lists.{searchOf};
-ghost use Rattle.contents.specs.Inner.{apartAfter, apartOf, wholeOver, wholeFrom};
+ghost use Rattle.lists.specs.Lists.{search_of};
+ghost use Rattle.contents.specs.Inner.{apart_after, apart_of, whole_over, whole_from};
 
 use btree::Search;
 use cursor::{Reached, Step, next};
@@ -28,7 +28,7 @@ fn with_nodes(ruling: Ruling, nodes: u64) -> Settled
 
 // The end of an extent may pass 2^64 - 1, so it is not summed.
 fn apart_after(ruling: Ruling, last: Extent, e: Extent) -> Ruling
-    ensures { ruled result ≡ apartAfter (ruled ruling) last e }
+    ensures { ruled result ≡ apart_after (ruled ruling) last e }
 {
     match ruling {
         Ruling::No(w) => Ruling::No(w),
@@ -46,7 +46,7 @@ fn apart_after(ruling: Ruling, last: Extent, e: Extent) -> Ruling
 
 // All extents are read before the first of them is judged.
 fn apart(image: &[u8], q: Search, start: Step) -> Settled
-    ensures { settledTold result ≡ apartOf image.now q (run_at image.now q start start.from) }
+    ensures { settled_told result ≡ apart_of image.now q (run_at image.now q start start.from) }
 {
     let keys = q.keys;
     let mut ruling = Ruling::Fine;
@@ -77,7 +77,7 @@ fn apart(image: &[u8], q: Search, start: Step) -> Settled
 }
 
 fn whole_over(image: &[u8], q: Search, size: u64, start: Step) -> Settled
-    ensures { settledTold result ≡ wholeOver image.now q size (run_at image.now q start start.from) }
+    ensures { settled_told result ≡ whole_over image.now q size (run_at image.now q start start.from) }
 {
     let a = apart(image, q, start);
     let ruling = a.ruling;
@@ -93,7 +93,7 @@ fn whole_over(image: &[u8], q: Search, size: u64, start: Step) -> Settled
 
 // Whether the whole of a file that is not compressed can be read, its extents from a step on; where there is none nothing is refused.
 pub fn settle_whole(image: &[u8], v: Volume, inode: Inode, start: Step) -> Settled
-    ensures { settledTold result ≡ wholeFrom image.now v inode (run_at image.now (searchOf v inode.ids.private_id 8) start start.from) }
+    ensures { settled_told result ≡ whole_from image.now v inode (run_at image.now (search_of v inode.ids.private_id 8) start start.from) }
 {
     let reached = start.reached;
     if let Reached::End = reached {

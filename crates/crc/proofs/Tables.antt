@@ -10,8 +10,8 @@ use lib.Dec.{T, eqb, eqb→eq, leb, leb→le, lit<}
 use lib.Ieee.Fits.{and_l, and_r}
 use lib.ListN.{length, get_or}
 use Rattle.crc.specs.Crc.{shifts, crc}
-use Rattle.crc.specs.Tabled.{TableRule, stepBy, crcBy}
-use Rattle.crc.proofs.Shifts.{shifts-byte}
+use Rattle.crc.specs.Tabled.{TableRule, step_by, crc_by}
+use Rattle.crc.proofs.Shifts.{shifts_byte}
 
 module _ (p : ℕ) where
   -- of the words from the i-th on
@@ -24,25 +24,25 @@ module _ (p : ℕ) where
   word (x ∷ xs) i zero t h = rw add-zero (eqb→eq x (shifts p 8 i) (and_l (eqb x (shifts p 8 i)) (words (suc i) xs) t))
   word (x ∷ xs) i (suc k) t h = rw (add-suc, ← suc-add) (word xs (suc i) k (and_r (eqb x (shifts p 8 i)) (words (suc i) xs) t) (le_of_suc-le-suc h))
 
-  pub table-rule : (ws : List ℕ) → T (words 0 ws) → T (leb 256 (length ws)) → TableRule p ws
-  table-rule ws t h = record { long = leb→le 256 (length ws) h; word = λ i k. word ws 0 i t (omega (arith, leb→le 256 (length ws) h)) ∙ rw (zero-add i) }
+  pub table_rule_lem : (ws : List ℕ) → T (words 0 ws) → T (leb 256 (length ws)) → TableRule p ws
+  table_rule_lem ws t h = record { long = leb→le 256 (length ws) h; word = λ i k. word ws 0 i t (omega (arith, leb→le 256 (length ws) h)) ∙ rw (zero-add i) }
 
   module _ (ws : List ℕ) (rule : TableRule p ws) where
-    pub step_by : (c x : ℕ) → stepBy ws c x ≡ shifts p 8 (bit_xor c x)
-    unfolding stepBy
-    step_by c x = rw (rule.word (bit_xor c x % 256) (mod-lt (bit_xor c x) (lit< tt)), shifts-byte p (bit_xor c x))
+    pub step_by_lem : (c x : ℕ) → step_by ws c x ≡ shifts p 8 (bit_xor c x)
+    unfolding step_by
+    step_by_lem c x = rw (rule.word (bit_xor c x % 256) (mod-lt (bit_xor c x) (lit< tt)), shifts_byte p (bit_xor c x))
 
-    pub crc-by : (c : ℕ) (b : List ℕ) → crcBy ws c b ≡ crc p c b
-    unfolding crc crcBy
-    crc-by c [] = refl
-    crc-by c (x ∷ b) = rw (step_by c x) (crc-by (shifts p 8 (bit_xor c x)) b)
+    pub crc_by_lem : (c : ℕ) (b : List ℕ) → crc_by ws c b ≡ crc p c b
+    unfolding crc crc_by
+    crc_by_lem c [] = refl
+    crc_by_lem c (x ∷ b) = rw (step_by_lem c x) (crc_by_lem (shifts p 8 (bit_xor c x)) b)
 
     -- a register that was found by the table
-    pub crc-tabled : (c : ℕ) (b : List ℕ) (r : ℕ) → r ≡ crcBy ws c b → r ≡ crc p c b
-    crc-tabled c b r h = h ∙ crc-by c b
+    pub crc_tabled : (c : ℕ) (b : List ℕ) (r : ℕ) → r ≡ crc_by ws c b → r ≡ crc p c b
+    crc_tabled c b r h = h ∙ crc_by_lem c b
 
 -- the bytes of two lists, one after the other
-pub crc-append : (ws : List ℕ) (c : ℕ) (a b : List ℕ) → crcBy ws c (a ++ b) ≡ crcBy ws (crcBy ws c a) b
-unfolding crcBy
-crc-append ws c [] b = refl
-crc-append ws c (x ∷ a) b = crc-append ws (stepBy ws c x) a b
+pub crc_append : (ws : List ℕ) (c : ℕ) (a b : List ℕ) → crc_by ws c (a ++ b) ≡ crc_by ws (crc_by ws c a) b
+unfolding crc_by
+crc_append ws c [] b = refl
+crc_append ws c (x ∷ a) b = crc_append ws (step_by ws c x) a b

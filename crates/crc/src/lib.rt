@@ -1,11 +1,11 @@
 // A reflected CRC of 32 bits, by a table of words; the polynomial is the table's.
 ghost use Rattle.std.specs.Prelude.{◌≡◌, ◌≤◌, length};
-ghost use Rattle.crc.specs.Tabled.{stepBy, crcBy};
+ghost use Rattle.crc.specs.Tabled.{step_by, crc_by};
 
 // The register after one more byte.
 pub fn byte_step(table: &[u32], register: u32, byte: u8) -> u32
     requires { 256 ≤ length table.now }
-    ensures { result ≡ stepBy table.now register byte }
+    ensures { result ≡ step_by table.now register byte }
 {
     let x = register ^ (byte as u32);
     table[(x % 256) as usize] ^ (x / 256)
@@ -14,7 +14,7 @@ pub fn byte_step(table: &[u32], register: u32, byte: u8) -> u32
 // The register after the bytes.
 pub fn crc_of(table: &[u32], register: u32, b: &[u8]) -> u32
     requires { 256 ≤ length table.now }
-    ensures { result ≡ crcBy table.now register b.now }
+    ensures { result ≡ crc_by table.now register b.now }
 {
     let mut c = register;
     let mut i = 0;

@@ -1,8 +1,8 @@
 // The way down to a leaf: for each level above it a block, and the entry at which its node goes on.
 ghost use Rattle.std.specs.Prelude.{◌≡◌, ◌<◌, length};
 ghost use Rattle.node.specs.Node.{parsed};
-ghost use Rattle.cursor.specs.Left.{top_of, nodeOn};
-ghost use Rattle.cursor.specs.Inner.{noneLeft, mark_of, withMark};
+ghost use Rattle.cursor.specs.Left.{top_of, node_on};
+ghost use Rattle.cursor.specs.Inner.{none_left, mark_of, with_mark};
 
 use btree::Search;
 use node::{Parsed, parse};
@@ -19,7 +19,7 @@ pub struct Path {
 }
 
 pub fn none_left() -> Path
-    ensures { result ≡ noneLeft }
+    ensures { result ≡ none_left }
 {
     let k = Mark { block: 0, next: 0 };
     let ks = [k; 33];
@@ -28,7 +28,7 @@ pub fn none_left() -> Path
 
 pub fn put(c: Path, level: u16, k: Mark) -> Path
     requires { level < 33 }
-    ensures { (result ≡ withMark c level k) × (length c.marks ≡ 33) }
+    ensures { (result ≡ with_mark c level k) × (length c.marks ≡ 33) }
 {
     let mut d = c;
     let l = level as usize;
@@ -57,7 +57,7 @@ pub fn top_of(q: Search) -> u16
 
 // The node of a level on the path: its block was verified on the way down.
 pub fn node_on(image: &[u8], q: Search, level: u16, block: u64) -> Parsed
-    ensures { parsed result ≡ nodeOn image.now q level block }
+    ensures { parsed result ≡ node_on image.now q level block }
 {
     let root = q.root;
     if level == root.level {

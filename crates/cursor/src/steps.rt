@@ -1,8 +1,8 @@
 // The leaves of a scan, and the records of a leaf, one after the other.
 ghost use Rattle.std.specs.Prelude.{◌≡◌};
-ghost use Rattle.btree.specs.Scan.{scanOf};
-ghost use Rattle.cursor.specs.Left.{left, inReached, Begins};
-ghost use Rattle.cursor.specs.Inner.{inWhole};
+ghost use Rattle.btree.specs.Scan.{scan_of};
+ghost use Rattle.cursor.specs.Left.{left, in_reached, Begins};
+ghost use Rattle.cursor.specs.Inner.{in_whole};
 
 use crate::path::{Path, mark_of, node_on, none_left, top_of};
 use crate::walk::{InPart, PartStep, part_step, walk_from};
@@ -31,7 +31,7 @@ pub struct Step {
 
 // The first record of a leaf from an entry on.
 pub fn in_leaf(image: &[u8], k: Keys, reached: Reached, from: u32) -> InLeaf
-    ensures { result ≡ inReached image.now k reached from }
+    ensures { result ≡ in_reached image.now k reached from }
 {
     match reached {
         Reached::Leaf(m) => next_in(image, k, m, from),
@@ -42,7 +42,7 @@ pub fn in_leaf(image: &[u8], k: Keys, reached: Reached, from: u32) -> InLeaf
 
 // Where all of the tree is passed, the scan ends.
 fn in_whole(found: InPart) -> Reached
-    ensures { result ≡ inWhole found }
+    ensures { result ≡ in_whole found }
 {
     match found {
         InPart::At(m) => Reached::Leaf(m),
@@ -53,7 +53,7 @@ fn in_whole(found: InPart) -> Reached
 }
 
 pub fn whole(s: PartStep) -> Step
-    ensures { result ≡ record { reached = inWhole s.found; from = s.from; level = s.level; path = s.path; nodes = s.nodes } }
+    ensures { result ≡ record { reached = in_whole s.found; from = s.from; level = s.level; path = s.path; nodes = s.nodes } }
 {
     let found = s.found;
     let path = s.path;
@@ -68,7 +68,7 @@ pub fn whole(s: PartStep) -> Step
 
 // The first leaf of a scan.
 pub fn first(image: &[u8], q: Search, nodes: u64) -> Step
-    ensures { Begins image.now q result (scanOf image.now q nodes) }
+    ensures { Begins image.now q result (scan_of image.now q nodes) }
 {
     let root = q.root;
     let c = none_left();

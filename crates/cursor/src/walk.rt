@@ -1,9 +1,9 @@
 // The next leaf that has a record, or ends the scan, in a part of the tree.
 ghost use Rattle.std.specs.Prelude.{◌≡◌, ◌-◌, ◌≤◌};
 ghost use Rattle.error.specs.Answer.{got};
-ghost use Rattle.node.specs.Node.{leafBit};
-ghost use Rattle.lookup.specs.Read.{nodeAt};
-ghost use Rattle.btree.specs.Inner.{leafFrom, walk, child};
+ghost use Rattle.node.specs.Node.{leaf_bit};
+ghost use Rattle.lookup.specs.Read.{node_at};
+ghost use Rattle.btree.specs.Inner.{leaf_from, walk, child};
 ghost use Rattle.cursor.specs.Left.{top_of, left};
 ghost use Rattle.cursor.specs.Inner.{Known, onward, Makes};
 
@@ -53,7 +53,7 @@ fn leaf_from(
     c: Path,
     nodes: u64,
 ) -> PartStep
-    ensures { Makes image.now q result (left image.now q c level) (leafFrom image.now q node (node.nkeys - from) from nodes (left image.now q c level nodes)) }
+    ensures { Makes image.now q result (left image.now q c level) (leaf_from image.now q node (node.nkeys - from) from nodes (left image.now q c level nodes)) }
 {
     match next_in(image, q.keys, node, from) {
         InLeaf::At(_, after) => part_step(InPart::At(node), after - 1, level, c, nodes),
@@ -119,7 +119,7 @@ fn descend(
     c: Path,
     nodes: u64,
 ) -> PartStep
-    requires { (level ≤ top_of q) × Known image.now q level node × (leafBit node.flags ≡ 1 → ⊥) × (nodeAt q.keys.reader image.now m.block ≡ got m) }
+    requires { (level ≤ top_of q) × Known image.now q level node × (leaf_bit node.flags ≡ 1 → ⊥) × (node_at q.keys.reader image.now m.block ≡ got m) }
     ensures { Makes image.now q result (onward image.now q level node next c) (child image.now q level m (onward image.now q level node next c) nodes) }
 {
     if level == 0 {

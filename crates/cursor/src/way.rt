@@ -1,10 +1,10 @@
 // The way down to the first record of an id, on which searches of the same id and a greater kind begin too.
 ghost use Rattle.std.specs.Prelude.{◌≡◌, true, ◌-◌, ◌≤◌, ◌<◌};
-ghost use Rattle.btree.specs.Scan.{scanOf};
-ghost use Rattle.btree.specs.Inner.{leafFrom, inNode, walk, kinded};
+ghost use Rattle.btree.specs.Scan.{scan_of};
+ghost use Rattle.btree.specs.Inner.{leaf_from, in_node, walk, kinded};
 ghost use Rattle.cursor.specs.Left.{top_of, left, Begins};
 ghost use Rattle.cursor.specs.Inner.{Known};
-ghost use Rattle.cursor.specs.Way.{staysOn, recordIn, Leads};
+ghost use Rattle.cursor.specs.Way.{stays_on, record_in, Leads};
 
 use crate::path::{Mark, Path, mark_of, node_on, none_left, put, top_of};
 use crate::steps::{Reached, Step, first, next, whole};
@@ -37,7 +37,7 @@ fn way_to(node: Node, from: u32, level: u16, path: Path, nodes: u64) -> Way
 
 // The entry of the first record of a leaf, or its first entry.
 fn record_from(image: &[u8], q: Search, node: Node) -> u32
-    ensures { result ≡ recordIn (inNode image.now q node 0) }
+    ensures { result ≡ record_in (in_node image.now q node 0) }
 {
     match next_in(image, q.keys, node, 0) {
         InLeaf::At(_, after) => after - 1,
@@ -90,7 +90,7 @@ pub fn way_down(image: &[u8], q: Search, nodes: u64) -> Way
 
 // Whether a search goes into each child of a path.
 fn stays_on(image: &[u8], q: Search, c: Path, level: u16) -> bool
-    ensures { result ≡ staysOn image.now q c level }
+    ensures { result ≡ stays_on image.now q c level }
 {
     let top = top_of(q);
     let mut l = level;
@@ -124,7 +124,7 @@ fn step_to(reached: Reached, from: u32, w: Way) -> Step
 
 // The first leaf from a leaf on: mostly itself.
 fn begin_leaf(image: &[u8], q: Search, w: Way) -> Step
-    ensures { Begins image.now q result (leafFrom image.now q w.node (w.node.nkeys - w.from) w.from w.nodes (left image.now q w.path w.level w.nodes)) }
+    ensures { Begins image.now q result (leaf_from image.now q w.node (w.node.nkeys - w.from) w.from w.nodes (left image.now q w.path w.level w.nodes)) }
 {
     let node = w.node;
     match next_in(image, q.keys, node, w.from) {
@@ -169,7 +169,7 @@ fn begin_at(image: &[u8], q: Search, w: Way) -> Step
 // The first leaf of a search, on its own way.
 pub fn begin(image: &[u8], q: Search, w: Way, nodes: u64) -> Step
     requires { Leads image.now q nodes w }
-    ensures { Begins image.now q result (scanOf image.now q nodes) }
+    ensures { Begins image.now q result (scan_of image.now q nodes) }
 {
     let root = q.root;
     if 32 < root.level {
@@ -195,7 +195,7 @@ fn with_kind(q: Search, kind: u8) -> Search
 // The first leaf of a search of the same id and a greater kind: on the way of the lower, unless it skips a child there.
 pub fn resume(image: &[u8], q: Search, kind: u8, w: Way, nodes: u64) -> Step
     requires { Leads image.now q nodes w }
-    ensures { Begins image.now (kinded q kind) result (scanOf image.now (kinded q kind) nodes) }
+    ensures { Begins image.now (kinded q kind) result (scan_of image.now (kinded q kind) nodes) }
 {
     let root = q.root;
     let higher = with_kind(q, kind);

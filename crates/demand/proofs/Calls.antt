@@ -7,35 +7,35 @@ use Rattle.volume.specs.declared.Volume.{Volume}
 use Rattle.records.specs.declared.attribute.Attribute.{Attribute}
 use Rattle.records.specs.declared.directory.Entry.{Entry}
 use Rattle.inode_record.specs.declared.inode.Inode.{Inode}
-use Rattle.lists.specs.Lists.{inodeOf, entriesOf, attributesOf}
-use Rattle.files.specs.File.{readFile, readWhole}
-use Rattle.links.specs.Link.{contentsOf}
-use Rattle.lines.specs.Shown.{inodeShown, entryShown, attributeShown}
-use Rattle.demand.specs.Demand.{withContents, inodeAnswer, entriesAnswer, attributesAnswer, contentsAnswer, readAnswer}
-use Rattle.demand.proofs.Counts.{inode-even, entries-even, attributes-even, contents-even, read-even, whole-even}
+use Rattle.lists.specs.Lists.{inode_of, entries_of, attributes_of}
+use Rattle.files.specs.File.{read_file, read_whole}
+use Rattle.links.specs.Link.{contents_of}
+use Rattle.lines.specs.Shown.{inode_shown, entry_shown, attribute_shown}
+use Rattle.demand.specs.Demand.{with_contents, inode_answer, entries_answer, attributes_answer, contents_answer, read_answer}
+use Rattle.demand.proofs.Counts.{inode_even, entries_even, attributes_even, contents_even, read_even, whole_even}
 
 module _ (image : List ℕ) (v : Volume) where
-  pub inode-answer : (id s : ℕ) → ((inodeOf image v id s).answer >>= λ i. got (inodeShown v.reader image i)) ≡ inodeAnswer image v id
-  unfolding inodeAnswer
-  inode-answer id s = ap (λ (a : Answer Inode). a >>= λ i. got (inodeShown v.reader image i)) (inode-even image v id s 0)
+  pub inode_answer_lem : (id s : ℕ) → ((inode_of image v id s).answer >>= λ i. got (inode_shown v.reader image i)) ≡ inode_answer image v id
+  unfolding inode_answer
+  inode_answer_lem id s = ap (λ (a : Answer Inode). a >>= λ i. got (inode_shown v.reader image i)) (inode_even image v id s 0)
 
-  pub entries-answer : (id s : ℕ) → ((entriesOf image v id s).answer >>= λ es. got (map (entryShown v.reader image) es)) ≡ entriesAnswer image v id
-  unfolding entriesAnswer
-  entries-answer id s = ap (λ (a : Answer (List Entry)). a >>= λ es. got (map (entryShown v.reader image) es)) (entries-even image v id s 0)
+  pub entries_answer_lem : (id s : ℕ) → ((entries_of image v id s).answer >>= λ es. got (map (entry_shown v.reader image) es)) ≡ entries_answer image v id
+  unfolding entries_answer
+  entries_answer_lem id s = ap (λ (a : Answer (List Entry)). a >>= λ es. got (map (entry_shown v.reader image) es)) (entries_even image v id s 0)
 
-  pub attributes-answer : (id s : ℕ) → ((attributesOf image v id s).answer >>= λ l. got (map (withContents image v) l)) ≡ attributesAnswer image v id
-  unfolding attributesAnswer
-  attributes-answer id s = ap (λ (a : Answer (List Attribute)). a >>= λ l. got (map (withContents image v) l)) (attributes-even image v id s 0)
+  pub attributes_answer_lem : (id s : ℕ) → ((attributes_of image v id s).answer >>= λ l. got (map (with_contents image v) l)) ≡ attributes_answer image v id
+  unfolding attributes_answer
+  attributes_answer_lem id s = ap (λ (a : Answer (List Attribute)). a >>= λ l. got (map (with_contents image v) l)) (attributes_even image v id s 0)
 
-  pub contents-answer : (a : Attribute) (s : ℕ) → attributeShown v.reader image a (contentsOf image v a s).answer ≡ withContents image v a
-  contents-answer a s = ap (λ (c : Answer (List ℕ)). attributeShown v.reader image a c) (contents-even image v a s 0)
+  pub contents_answer_lem : (a : Attribute) (s : ℕ) → attribute_shown v.reader image a (contents_of image v a s).answer ≡ with_contents image v a
+  contents_answer_lem a s = ap (λ (c : Answer (List ℕ)). attribute_shown v.reader image a c) (contents_even image v a s 0)
 
   -- of an inode that was read by its id
-  module _ (id s : ℕ) (i : Inode) (found : (inodeOf image v id s).answer ≡ got i) where
-    pub read_answer : (off len t : ℕ) → (readFile image v i off len t).answer ≡ readAnswer image v id off len
-    unfolding readAnswer
-    read_answer off len t = rw (← inode-even image v id s 0, found) (read-even image v i off len t 0)
+  module _ (id s : ℕ) (i : Inode) (found : (inode_of image v id s).answer ≡ got i) where
+    pub read_answer_lem : (off len t : ℕ) → (read_file image v i off len t).answer ≡ read_answer image v id off len
+    unfolding read_answer
+    read_answer_lem off len t = rw (← inode_even image v id s 0, found) (read_even image v i off len t 0)
 
-    pub whole-answer : (t : ℕ) → (readWhole image v i t).answer ≡ contentsAnswer image v id
-    unfolding contentsAnswer
-    whole-answer t = rw (← inode-even image v id s 0, found) (whole-even image v i t 0)
+    pub whole_answer : (t : ℕ) → (read_whole image v i t).answer ≡ contents_answer image v id
+    unfolding contents_answer
+    whole_answer t = rw (← inode_even image v id s 0, found) (whole_even image v i t 0)

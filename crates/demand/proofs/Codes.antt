@@ -12,8 +12,8 @@ use lib.IntN.{ℤ, pos, negsuc}
 use lib.Dec.{T, T_not, eqb, eqb_refl, ltb, ltb→lt}
 use borrow.Author.Tests.{ltb-true, ltb-false, lt-ltb, le-ltb}
 use Rattle.text.specs.Words.{ascii, places, digits, signed, glyph, pairs, bytes, bytes?, two?}
-use Rattle.text.proofs.Digits.{digits_append, signed-append}
-use Rattle.lines.proofs.After.{bytes-append, bytes?-append, two?-append}
+use Rattle.text.proofs.Digits.{digits_append, signed_append}
+use Rattle.lines.proofs.After.{bytes_append, bytes?_append, two?_append}
 
 -- what may follow a word: a byte below `-`
 abbrev pub Stop : List ℕ → Type 0
@@ -45,107 +45,107 @@ module _ {A : Type 0} (a b : A) where
 
 -- ---- numbers
 
-pub readNum : ℕ → List ℕ → ℕ × List ℕ
-readNum n [] = (n, [])
-readNum n (c ∷ x) = cond (ltb c 46) (n, c ∷ x) (readNum (n * 10 + (c - 48)) x)
+pub read_num : ℕ → List ℕ → ℕ × List ℕ
+read_num n [] = (n, [])
+read_num n (c ∷ x) = cond (ltb c 46) (n, c ∷ x) (read_num (n * 10 + (c - 48)) x)
 
-num-digit : (n d m : ℕ) (x : List ℕ) → n * 10 + d ≡ m → readNum n ((48 + d) ∷ x) ≡ readNum m x
-unfolding readNum
-num-digit n d m x h = above _ _ (48 + d) 46 (omega arith) ∙ ap (λ (k : ℕ). readNum k x) (omega arith)
+num_digit : (n d m : ℕ) (x : List ℕ) → n * 10 + d ≡ m → read_num n ((48 + d) ∷ x) ≡ read_num m x
+unfolding read_num
+num_digit n d m x h = above _ _ (48 + d) 46 (omega arith) ∙ ap (λ (k : ℕ). read_num k x) (omega arith)
 
-num-stop : (n : ℕ) (x : List ℕ) → Stop x → readNum n x ≡ (n, x)
-unfolding readNum
-num-stop n [] h = absurd h
-num-stop n (c ∷ x) h = below _ _ c 46 (omega (arith, ltb→lt c 45 h))
+num_stop : (n : ℕ) (x : List ℕ) → Stop x → read_num n x ≡ (n, x)
+unfolding read_num
+num_stop n [] h = absurd h
+num_stop n (c ∷ x) h = below _ _ c 46 (omega (arith, ltb→lt c 45 h))
 
-num-places : (k n : ℕ) (x : List ℕ) → n ≤ k → readNum 0 (places k n x) ≡ readNum n x
+num_places : (k n : ℕ) (x : List ℕ) → n ≤ k → read_num 0 (places k n x) ≡ read_num n x
 unfolding places
-num-places zero n x h = ap (λ (m : ℕ). readNum m x) (omega arith)
-num-places (suc k) zero x h = refl
-num-places (suc k) (suc n) x h = num-places k (suc n / 10) _ (omega arith) ∙ num-digit (suc n / 10) (suc n % 10) (suc n) x (omega arith)
+num_places zero n x h = ap (λ (m : ℕ). read_num m x) (omega arith)
+num_places (suc k) zero x h = refl
+num_places (suc k) (suc n) x h = num_places k (suc n / 10) _ (omega arith) ∙ num_digit (suc n / 10) (suc n % 10) (suc n) x (omega arith)
 
-pub num-back : (n : ℕ) (x : List ℕ) → Stop x → readNum 0 (digits n x) ≡ (n, x)
+pub num_back : (n : ℕ) (x : List ℕ) → Stop x → read_num 0 (digits n x) ≡ (n, x)
 unfolding digits
-num-back n x h = num-places n (n / 10) _ (omega arith) ∙ num-digit (n / 10) (n % 10) n x (omega arith) ∙ num-stop n x h
+num_back n x h = num_places n (n / 10) _ (omega arith) ∙ num_digit (n / 10) (n % 10) n x (omega arith) ∙ num_stop n x h
 
 abbrev pub num : Code ℕ
-num = record { put = digits; get = readNum 0; back = num-back; after = digits_append }
+num = record { put = digits; get = read_num 0; back = num_back; after = digits_append }
 
--- ---- signed numbers, and two numbers or none: what stops `readNum` at once is `-`
+-- ---- signed numbers, and two numbers or none: what stops `read_num` at once is `-`
 
-pub readInt : ℕ → List ℕ → ℤ × List ℕ
-readInt n [] = (pos n, [])
-readInt n (c ∷ x) = cond (ltb c 45) (pos n, c ∷ x) (negsuc (pred (readNum 0 x).0), (readNum 0 x).1)
+pub read_int : ℕ → List ℕ → ℤ × List ℕ
+read_int n [] = (pos n, [])
+read_int n (c ∷ x) = cond (ltb c 45) (pos n, c ∷ x) (negsuc (pred (read_num 0 x).0), (read_num 0 x).1)
 
-int-stop : (n : ℕ) (x : List ℕ) → Stop x → readInt n x ≡ (pos n, x)
-unfolding readInt
-int-stop n [] h = absurd h
-int-stop n (c ∷ x) h = below _ _ c 45 (ltb→lt c 45 h)
+int_stop : (n : ℕ) (x : List ℕ) → Stop x → read_int n x ≡ (pos n, x)
+unfolding read_int
+int_stop n [] h = absurd h
+int_stop n (c ∷ x) h = below _ _ c 45 (ltb→lt c 45 h)
 
-pub int-back : (z : ℤ) (x : List ℕ) → Stop x → readInt (readNum 0 (signed z x)).0 (readNum 0 (signed z x)).1 ≡ (z, x)
-unfolding readNum readInt signed
-int-back (pos n) x h = rw (num-back, int-stop)
-int-back (negsuc n) x h = rw num-back
+pub int_back : (z : ℤ) (x : List ℕ) → Stop x → read_int (read_num 0 (signed z x)).0 (read_num 0 (signed z x)).1 ≡ (z, x)
+unfolding read_num read_int signed
+int_back (pos n) x h = rw (num_back, int_stop)
+int_back (negsuc n) x h = rw num_back
 
 abbrev pub int : Code ℤ
-int = record { put = signed; get = λ x. readInt (readNum 0 x).0 (readNum 0 x).1; back = int-back; after = signed-append }
+int = record { put = signed; get = λ x. read_int (read_num 0 x).0 (read_num 0 x).1; back = int_back; after = signed_append }
 
-pub readTwo : ℕ → List ℕ → Option (ℕ × ℕ) × List ℕ
-readTwo n [] = (none, [])
-readTwo n (c ∷ x) = cond (ltb c 45) (some (n, (readNum 0 x).0), (readNum 0 x).1) (none, x)
+pub read_two : ℕ → List ℕ → Option (ℕ × ℕ) × List ℕ
+read_two n [] = (none, [])
+read_two n (c ∷ x) = cond (ltb c 45) (some (n, (read_num 0 x).0), (read_num 0 x).1) (none, x)
 
-pub two_back : (o : Option (ℕ × ℕ)) (x : List ℕ) → Stop x → readTwo (readNum 0 (two? o x)).0 (readNum 0 (two? o x)).1 ≡ (o, x)
-unfolding readNum readTwo
+pub two_back : (o : Option (ℕ × ℕ)) (x : List ℕ) → Stop x → read_two (read_num 0 (two? o x)).0 (read_num 0 (two? o x)).1 ≡ (o, x)
+unfolding read_num read_two
 two_back none x h = refl
-two_back (some p) x h = rw (num-back p.0 (44 ∷ digits p.1 x) tt, num-back)
+two_back (some p) x h = rw (num_back p.0 (44 ∷ digits p.1 x) tt, num_back)
 
 abbrev pub two : Code (Option (ℕ × ℕ))
-two = record { put = two?; get = λ x. readTwo (readNum 0 x).0 (readNum 0 x).1; back = two_back; after = two?-append }
+two = record { put = two?; get = λ x. read_two (read_num 0 x).0 (read_num 0 x).1; back = two_back; after = two?_append }
 
 -- ---- bytes
 
 pub unglyph : ℕ → ℕ
 unglyph c = cond (ltb c 58) (c - 48) (c - 87)
 
-glyph-back : (d : ℕ) → (48 ≤ glyph d) × (unglyph (glyph d) ≡ d)
+glyph_back : (d : ℕ) → (48 ≤ glyph d) × (unglyph (glyph d) ≡ d)
 unfolding unglyph glyph
-glyph-back d = go (ltb d 10) refl
+glyph_back d = go (ltb d 10) refl
   where
     go : (b : Bool) → ltb d 10 ≡ b → (48 ≤ glyph d) × (unglyph (glyph d) ≡ d)
     go true e = rw e (omega arith, below _ _ (48 + d) 58 (omega (arith, ltb-true)) ∙ omega arith)
     go false e = rw e (omega arith, above _ _ (87 + d) 58 (omega (arith, ltb-false)) ∙ omega arith)
 
 mutual
-  pub readHex : List ℕ → List ℕ × List ℕ
-  readHex [] = ([], [])
-  readHex (c ∷ x) = cond (ltb c 46) ([], c ∷ x) (readLow (unglyph c) x)
+  pub read_hex : List ℕ → List ℕ × List ℕ
+  read_hex [] = ([], [])
+  read_hex (c ∷ x) = cond (ltb c 46) ([], c ∷ x) (read_low (unglyph c) x)
 
-  pub readLow : ℕ → List ℕ → List ℕ × List ℕ
-  readLow h [] = ([], [])
-  readLow h (c ∷ x) = ((h * 16 + unglyph c) ∷ (readHex x).0, (readHex x).1)
+  pub read_low : ℕ → List ℕ → List ℕ × List ℕ
+  read_low h [] = ([], [])
+  read_low h (c ∷ x) = ((h * 16 + unglyph c) ∷ (read_hex x).0, (read_hex x).1)
 
-pub hex-back : (bs x : List ℕ) → Stop x → readHex (pairs bs x) ≡ (bs, x)
-unfolding readHex pairs
-hex-back [] [] h = absurd h
-hex-back [] (c ∷ x) h = below _ _ c 46 (omega (arith, ltb→lt c 45 h))
-hex-back (b ∷ bs) x h =
-    above _ _ (glyph (b / 16)) 46 (omega (arith, (glyph-back (b / 16)).0))
-    ∙ simp (hex-back bs x h, (glyph-back (b / 16)).1, (glyph-back (b % 16)).1, div-add-mod')
+pub hex_back : (bs x : List ℕ) → Stop x → read_hex (pairs bs x) ≡ (bs, x)
+unfolding read_hex pairs
+hex_back [] [] h = absurd h
+hex_back [] (c ∷ x) h = below _ _ c 46 (omega (arith, ltb→lt c 45 h))
+hex_back (b ∷ bs) x h =
+    above _ _ (glyph (b / 16)) 46 (omega (arith, (glyph_back (b / 16)).0))
+    ∙ simp (hex_back bs x h, (glyph_back (b / 16)).1, (glyph_back (b % 16)).1, div-add-mod')
 
 abbrev pub hex : Code (List ℕ)
-hex = record { put = bytes; get = λ x. readHex (tail x); back = hex-back; after = bytes-append }
+hex = record { put = bytes; get = λ x. read_hex (tail x); back = hex_back; after = bytes_append }
 
-pub readName : List ℕ → Option (List ℕ) × List ℕ
-readName [] = (none, [])
-readName (c ∷ x) = cond (ltb c 46) (none, x) (some (readHex x).0, (readHex x).1)
+pub read_name : List ℕ → Option (List ℕ) × List ℕ
+read_name [] = (none, [])
+read_name (c ∷ x) = cond (ltb c 46) (none, x) (some (read_hex x).0, (read_hex x).1)
 
-pub name_back : (o : Option (List ℕ)) (x : List ℕ) → Stop x → readName (bytes? o x) ≡ (o, x)
-unfolding readName
+pub name_back : (o : Option (List ℕ)) (x : List ℕ) → Stop x → read_name (bytes? o x) ≡ (o, x)
+unfolding read_name
 name_back none x h = refl
-name_back (some bs) x h = rw hex-back
+name_back (some bs) x h = rw hex_back
 
 abbrev pub name : Code (Option (List ℕ))
-name = record { put = bytes?; get = readName; back = name_back; after = bytes?-append }
+name = record { put = bytes?; get = read_name; back = name_back; after = bytes?_append }
 
 -- ---- one after the other, with a space between; and a value as the parts it is made of
 

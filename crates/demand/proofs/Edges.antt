@@ -6,25 +6,25 @@ use mathlib.Core.List.{List, [], ◌∷◌}
 use native.Mathlib.Omega.{arith}
 use lib.ListN.{take, drop}
 use lib.Seq.{take-nil, drop-nil}
-use Rattle.error.specs.Answer.{Answer, got, no, ifLe, ifEq}
+use Rattle.error.specs.Answer.{Answer, got, no, if_le, if_eq}
 use Rattle.error.specs.declared.Refusal.TheVariants.{Corrupt, Unsupported}
 use Rattle.text.specs.Words.{ascii, places, digits, signed, pairs}
 use Rattle.lines.specs.Shown.{InodeShown}
-use Rattle.lines.specs.Lines.{volumeLine, nodeLine, contentsLine, totalLine, close}
-use Rattle.totals.specs.Totals.{lines_of, begins, lineTotals, allLines, totalsOf}
+use Rattle.lines.specs.Lines.{volume_line, node_line, contents_line, total_line, close}
+use Rattle.totals.specs.Totals.{lines_of, begins, line_totals, all_lines, totals_of}
 use Rattle.demand.specs.Trace.{◌then◌, reading, within}
 use Rattle.demand.specs.View.{View}
-use Rattle.demand.specs.Listing.{attributeLines, is_packed, dataLine, entryForms, nodeForm, footed, trace, listing}
+use Rattle.demand.specs.Listing.{attribute_lines, is_packed, data_line, entry_forms, node_form, footed, trace, listing}
 use Rattle.demand.specs.Demand.{here, place, onward, follow, chain, Agree, past, on, Same}
-use Rattle.demand.specs.Listers.{smallInode}
-use Rattle.demand.proofs.Walks.{Reads, follow-nowhere}
+use Rattle.demand.specs.Listers.{small_inode}
+use Rattle.demand.proofs.Walks.{Reads, follow_nowhere}
 
 -- one node, an empty directory
 abbrev lone : ℕ → Answer (List ℕ) → Answer (List ℕ) → View
 lone bsd contents read = record {
   label = [];
   rule = record { case_insensitive = false; normalization_insensitive = false };
-  inode = λ i. got (smallInode bsd i);
+  inode = λ i. got (small_inode bsd i);
   entries = λ i. got [];
   attributes = λ i. got [];
   contents = λ i. contents;
@@ -37,8 +37,8 @@ unfolding follow onward place
 lone_same bsd c d r = record { label = refl; rule = refl; chains = go }
   where
     go : (x : List ℕ) → Agree (lone bsd c r) (lone bsd d r) (chain (lone bsd c r) x) (chain (lone bsd d r) x)
-    go [] = on (smallInode bsd 2) refl refl refl refl (λ off len. refl)
-    go (k ∷ x) = past (follow-nowhere _ x) (follow-nowhere _ x)
+    go [] = on (small_inode bsd 2) refl refl refl refl (λ off len. refl)
+    go (k ∷ x) = past (follow_nowhere _ x) (follow_nowhere _ x)
 
 -- 1. Both listings must be without refusal. An empty file whose extents overlap: it reads as any empty file, the volumes are the same,
 -- the law of reads holds of both, and one is listed and the other refused.
@@ -48,51 +48,51 @@ clean = lone 0 (got []) (got [])
 abbrev tangled : View
 tangled = lone 0 (no Corrupt) (got [])
 
-pub unpacked : (i : ℕ) (f : InodeShown) → got (smallInode 0 i) ≡ got f → is_packed f ≡ true → ⊥
+pub unpacked : (i : ℕ) (f : InodeShown) → got (small_inode 0 i) ≡ got f → is_packed f ≡ true → ⊥
 unpacked i f h p =
-    let e : smallInode 0 i ≡ f = cc in
+    let e : small_inode 0 i ≡ f = cc in
     let k : false ≡ true = ap (λ (g : InodeShown). is_packed g) e ∙ p in
     let z : ◌≡◌ {A = ℕ} 0 1 = cc in omega arith
 
-clean-reads : Reads clean
-clean-reads = record {
-  of-packed = λ i f h p off len. absurd (unpacked i f h p);
+clean_reads : Reads clean
+clean_reads = record {
+  of_packed = λ i f h p off len. absurd (unpacked i f h p);
   of_plain = λ i f bs h p q off len. let e : [] ≡ bs = cc in rw (← e, drop-nil, take-nil);
 }
 
-tangled-reads : Reads tangled
-tangled-reads = record {
-  of-packed = λ i f h p off len. absurd (unpacked i f h p);
+tangled_reads : Reads tangled
+tangled_reads = record {
+  of_packed = λ i f h p off len. absurd (unpacked i f h p);
   of_plain = λ i f bs h p q off len. let z : ◌≡◌ {A = Answer (List ℕ)} (got []) (got (take len (drop off bs))) = cc in z;
 }
 
-clean-tangled : Same clean tangled
-clean-tangled = lone_same 0 (got []) (no Corrupt) (got [])
+clean_tangled : Same clean tangled
+clean_tangled = lone_same 0 (got []) (no Corrupt) (got [])
 
-clean-listed : listing clean 65_536 ≡ got (ascii "(volume 0 0 x\n(node 2 1 2 0 0 0 0 0 0 0 0 0 16877 - -\n(data x)\n)\n(total 1 0 0)\n)\n" [])
-unfolding listing within ifLe trace nodeForm attributeLines dataLine entryForms reading ◌then◌ volumeLine nodeLine contentsLine totalLine close footed totalsOf lines_of allLines lineTotals begins ifEq signed digits places pairs
-clean-listed = refl
+clean_listed : listing clean 65_536 ≡ got (ascii "(volume 0 0 x\n(node 2 1 2 0 0 0 0 0 0 0 0 0 16877 - -\n(data x)\n)\n(total 1 0 0)\n)\n" [])
+unfolding listing within if_le trace node_form attribute_lines data_line entry_forms reading ◌then◌ volume_line node_line contents_line total_line close footed totals_of lines_of all_lines line_totals begins if_eq signed digits places pairs
+clean_listed = refl
 
-tangled-refused : listing tangled 65_536 ≡ no Corrupt
-unfolding listing within ifLe trace nodeForm attributeLines dataLine entryForms reading ◌then◌ volumeLine nodeLine contentsLine totalLine close footed totalsOf lines_of allLines lineTotals begins ifEq signed digits places pairs
-tangled-refused = refl
+tangled_refused : listing tangled 65_536 ≡ no Corrupt
+unfolding listing within if_le trace node_form attribute_lines data_line entry_forms reading ◌then◌ volume_line node_line contents_line total_line close footed totals_of lines_of all_lines line_totals begins if_eq signed digits places pairs
+tangled_refused = refl
 
 -- 2. A packed file must read as 3 throughout. If it read as its bytes, equal listings could be of volumes that are not the same.
-abbrev packed-as : ℕ → View
-packed-as b = lone 32 (no Unsupported) (got (b ∷ []))
+abbrev packed_as : ℕ → View
+packed_as b = lone 32 (no Unsupported) (got (b ∷ []))
 
-packed-listings : listing (packed-as 0) 65_536 ≡ listing (packed-as 1) 65_536
-unfolding listing within ifLe trace nodeForm attributeLines dataLine entryForms reading ◌then◌ volumeLine nodeLine contentsLine totalLine close footed totalsOf lines_of allLines lineTotals begins ifEq signed digits places pairs
-packed-listings = refl
+packed_listings : listing (packed_as 0) 65_536 ≡ listing (packed_as 1) 65_536
+unfolding listing within if_le trace node_form attribute_lines data_line entry_forms reading ◌then◌ volume_line node_line contents_line total_line close footed totals_of lines_of all_lines line_totals begins if_eq signed digits places pairs
+packed_listings = refl
 
-packed-listed : listing (packed-as 0) 65_536 ≡ got (ascii "(volume 0 0 x\n(node 2 1 2 0 0 0 0 0 0 32 0 0 16877 - -\n(packed)\n)\n(total 1 0 0)\n)\n" [])
-unfolding listing within ifLe trace nodeForm attributeLines dataLine entryForms reading ◌then◌ volumeLine nodeLine contentsLine totalLine close footed totalsOf lines_of allLines lineTotals begins ifEq signed digits places pairs
-packed-listed = refl
+packed_listed : listing (packed_as 0) 65_536 ≡ got (ascii "(volume 0 0 x\n(node 2 1 2 0 0 0 0 0 0 32 0 0 16877 - -\n(packed)\n)\n(total 1 0 0)\n)\n" [])
+unfolding listing within if_le trace node_form attribute_lines data_line entry_forms reading ◌then◌ volume_line node_line contents_line total_line close footed totals_of lines_of all_lines line_totals begins if_eq signed digits places pairs
+packed_listed = refl
 
-packed-differ : Same (packed-as 0) (packed-as 1) → ⊥
+packed_differ : Same (packed_as 0) (packed_as 1) → ⊥
 unfolding follow
-packed-differ s = go (s.chains [])
+packed_differ s = go (s.chains [])
   where
-    go : Agree (packed-as 0) (packed-as 1) (here (smallInode 32 2)) (here (smallInode 32 2)) → ⊥
+    go : Agree (packed_as 0) (packed_as 1) (here (small_inode 32 2)) (here (small_inode 32 2)) → ⊥
     go (past p q) = let z : ◌≡◌ {A = ℕ} 0 1 = cc in omega arith
     go (on f p q e a r) = let h = r 0 1 in let z : ◌≡◌ {A = ℕ} 0 1 = cc in omega arith

@@ -8,16 +8,16 @@ use borrow.Author.Rules.{zero≤}
 use Rattle.error.specs.Answer.{Answer, got, no, pick}
 use Rattle.error.specs.declared.Refusal.{Refusal}
 use Rattle.error.specs.declared.Refusal.TheVariants.{TooDeep}
-use Rattle.error.proofs.Laws.{le-cases}
+use Rattle.error.proofs.Laws.{le_cases}
 use Rattle.lines.specs.Shown.{InodeShown, EntryShown, AttributeShown, Contents, packed, plain}
-use Rattle.lines.specs.Lines.{volumeLine, contentsLine, close}
-use Rattle.totals.specs.Totals.{totalsOf}
-use Rattle.demand.specs.Trace.{End, done, stop, Trace, says, goOn, ◌then◌, reading, textOr, within}
-use Rattle.demand.specs.Tree.{Tree, node, Entries, none, entry, ofAttributes, ofTree, ofEntries, foot, ofVolume, depth_of, depthIn}
+use Rattle.lines.specs.Lines.{volume_line, contents_line, close}
+use Rattle.totals.specs.Totals.{totals_of}
+use Rattle.demand.specs.Trace.{End, done, stop, Trace, says, go_on, ◌then◌, reading, text_or, within}
+use Rattle.demand.specs.Tree.{Tree, node, Entries, none, entry, of_attributes, of_tree, of_entries, foot, of_volume, depth_of, depth_in}
 use Rattle.demand.specs.View.{View}
 use Rattle.demand.specs.Shows.{heads, heard, ShowsContents, ShowsNode, Shows, ShowsAll}
-use Rattle.demand.specs.Listing.{holding, attributeLines, is_packed, dataLine, entryForms, nodeForm, footed, footLines, trace, listing, levels}
-use Rattle.demand.proofs.TreeLaws.{Writes, volume-writes, node-writes, attribute-writes, contents-writes, entry-writes, close-writes, ◌next◌}
+use Rattle.demand.specs.Listing.{holding, attribute_lines, is_packed, data_line, entry_forms, node_form, footed, foot_lines, trace, listing, levels}
+use Rattle.demand.proofs.TreeLaws.{Writes, volume_writes, node_writes, attribute_writes, contents_writes, entry_writes, close_writes, ◌next◌}
 
 -- ---- traces that were done
 
@@ -25,28 +25,28 @@ stopped : {A : Type 0} (e : Refusal) → stop e ≡ done → A
 stopped e h = let z : ◌≡◌ {A = ℕ} 0 1 = cc in absurd (omega arith)
 
 module _ {R : Type 0} where
-  pub then-done : (t u : Trace) {s : List ℕ} → t then u ≡ says s → ((a b : List ℕ) → t ≡ says a → u ≡ says b → a ++ b ≡ s → R) → R
+  pub then_done : (t u : Trace) {s : List ℕ} → t then u ≡ says s → ((a b : List ℕ) → t ≡ says a → u ≡ says b → a ++ b ≡ s → R) → R
   unfolding ◌then◌
-  then-done t u {s} h then' = go t.text t.ended refl h
+  then_done t u {s} h then' = go t.text t.ended refl h
     where
-      go : (a : List ℕ) (e : End) → t ≡ record { text = a; ended = e } → goOn a e u ≡ says s → R
+      go : (a : List ℕ) (e : End) → t ≡ record { text = a; ended = e } → go_on a e u ≡ says s → R
       go a done p k = then' a u.text p (λ i. record { text = u.text; ended = (k i).ended }) (ap (λ z. z.text) k)
       go a (stop e) p k = stopped e (ap (λ z. z.ended) k)
 
-  pub reading-done : {A : Type 0} (a : Answer A) (f : A → Trace) {s : List ℕ} → reading a f ≡ says s → ((x : A) → a ≡ got x → f x ≡ says s → R) → R
+  pub reading_done : {A : Type 0} (a : Answer A) (f : A → Trace) {s : List ℕ} → reading a f ≡ says s → ((x : A) → a ≡ got x → f x ≡ says s → R) → R
   unfolding reading
-  reading-done (got x) f h then' = then' x refl h
-  reading-done (no e) f h then' = stopped e (ap (λ z. z.ended) h)
+  reading_done (got x) f h then' = then' x refl h
+  reading_done (no e) f h then' = stopped e (ap (λ z. z.ended) h)
 
-text-done : (a s : List ℕ) (e : End) → textOr a e ≡ got s → record { text = a; ended = e } ≡ says s
-text-done a s done h = let p : a ≡ s = cc in ap says p
-text-done a s (stop e) h = let z : ◌≡◌ {A = ℕ} 0 1 = cc in absurd (omega arith)
+text_done : (a s : List ℕ) (e : End) → text_or a e ≡ got s → record { text = a; ended = e } ≡ says s
+text_done a s done h = let p : a ≡ s = cc in ap says p
+text_done a s (stop e) h = let z : ◌≡◌ {A = ℕ} 0 1 = cc in absurd (omega arith)
 
-pub within-done : (m : ℕ) (t : Trace) (s : List ℕ) → within m t ≡ got s → t ≡ says s
+pub within_done : (m : ℕ) (t : Trace) (s : List ℕ) → within m t ≡ got s → t ≡ says s
 unfolding within
-within-done m t s =
-    le-cases (λ (x : Answer (List ℕ)). x ≡ got s → t ≡ says s)
-    (λ h k. text-done t.text s t.ended k)
+within_done m t s =
+    le_cases (λ (x : Answer (List ℕ)). x ≡ got s → t ≡ says s)
+    (λ h k. text_done t.text s t.ended k)
     (λ h k. let z : ◌≡◌ {A = ℕ} 0 1 = cc in absurd (omega arith))
 
 -- what is written is what was said
@@ -61,86 +61,86 @@ moved {f} p h = subst (Writes f) h p
 record Attrs (l : List (AttributeShown (Answer (List ℕ)))) (c : Contents) (s : List ℕ) : Type 0 where
   list : List (AttributeShown (List ℕ))
   those : l ≡ map heard list
-  text : Writes (ofAttributes list c) s
+  text : Writes (of_attributes list c) s
 
-attrs-done : (l : List (AttributeShown (Answer (List ℕ)))) (c : Contents) {s r : List ℕ} → attributeLines l ≡ says s → Writes (contentsLine c) r → Attrs l c (s ++ r)
-unfolding attributeLines
-attrs-done [] c {r = r} h w = record { list = []; those = refl; text = moved w (ap (λ z. z.text ++ r) h) }
-attrs-done (a ∷ l) c {r = r} h w =
-    then-done _ _ h λ p q hp hq e.
-    reading-done _ _ hp λ d hd k.
-    let rest = attrs-done l c hq w in
+attrs_done : (l : List (AttributeShown (Answer (List ℕ)))) (c : Contents) {s r : List ℕ} → attribute_lines l ≡ says s → Writes (contents_line c) r → Attrs l c (s ++ r)
+unfolding attribute_lines
+attrs_done [] c {r = r} h w = record { list = []; those = refl; text = moved w (ap (λ z. z.text ++ r) h) }
+attrs_done (a ∷ l) c {r = r} h w =
+    then_done _ _ h λ p q hp hq e.
+    reading_done _ _ hp λ d hd k.
+    let rest = attrs_done l c hq w in
     record {
       list = holding a d ∷ rest.list;
       those = λ i. holding a (hd i) ∷ rest.those i;
-      text = moved (said (attribute-writes (holding a d)) k next rest.text) (sym (append_assoc p q r) ∙ ap (◌++ r) e);
+      text = moved (said (attribute_writes (holding a d)) k next rest.text) (sym (append_assoc p q r) ∙ ap (◌++ r) e);
     }
 
 pub record Shown (v : View) (f : InodeShown) (s : List ℕ) : Type 0 where
   pub it : Contents
   pub shows : ShowsContents v f it
-  pub text : Writes (contentsLine it) s
+  pub text : Writes (contents_line it) s
 
-pub contents-done : (v : View) (f : InodeShown) {s : List ℕ} → dataLine v f ≡ says s → Shown v f s
-unfolding dataLine
-contents-done v f {s} h = go (is_packed f) refl h
+pub contents_done : (v : View) (f : InodeShown) {s : List ℕ} → data_line v f ≡ says s → Shown v f s
+unfolding data_line
+contents_done v f {s} h = go (is_packed f) refl h
   where
-    go : (b : Bool) → is_packed f ≡ b → pick b (says (contentsLine packed [])) (reading (v.contents f.id) λ d. says (contentsLine (plain d) [])) ≡ says s → Shown v f s
-    go true e k = record { it = packed; shows = e; text = said (contents-writes packed) k }
-    go false e k = reading-done _ _ k λ d hd g. record { it = plain d; shows = (e, hd); text = said (contents-writes (plain d)) g }
+    go : (b : Bool) → is_packed f ≡ b → pick b (says (contents_line packed [])) (reading (v.contents f.id) λ d. says (contents_line (plain d) [])) ≡ says s → Shown v f s
+    go true e k = record { it = packed; shows = e; text = said (contents_writes packed) k }
+    go false e k = reading_done _ _ k λ d hd g. record { it = plain d; shows = (e, hd); text = said (contents_writes (plain d)) g }
 
 -- a tree that stands at that inode, in so many levels, and whose text is s
 pub record TreeOf (v : View) (d i : ℕ) (s : List ℕ) : Type 0 where
   pub tree : Tree
   pub shows : Shows v i tree
   pub low : depth_of tree < d
-  pub text : Writes (ofTree tree) s
+  pub text : Writes (of_tree tree) s
 
 record Forms (v : View) (d : ℕ) (es : List EntryShown) (s : List ℕ) : Type 0 where
   list : Entries
   those : es ≡ heads list
   shows : ShowsAll v list
-  low : depthIn list ≤ d
-  text : Writes (ofEntries list) s
+  low : depth_in list ≤ d
+  text : Writes (of_entries list) s
 
-entries-done : (v : View) (d : ℕ) (form : ℕ → Trace) → ((i : ℕ) (s : List ℕ) → form i ≡ says s → TreeOf v d i s) → (es : List EntryShown) {s r : List ℕ} → entryForms form es ≡ says s
+entries_done : (v : View) (d : ℕ) (form : ℕ → Trace) → ((i : ℕ) (s : List ℕ) → form i ≡ says s → TreeOf v d i s) → (es : List EntryShown) {s r : List ℕ} → entry_forms form es ≡ says s
     → Writes close r → Forms v d es (s ++ r)
-unfolding entryForms
-entries-done v d form all [] {r = r} h w = record { list = none; those = refl; shows = tt; low = zero≤; text = moved w (ap (λ z. z.text ++ r) h) }
-entries-done v d form all (e ∷ es) {r = r} h w =
-    then-done _ _ h λ a b ha hb p.
-    then-done _ _ hb λ c k hc hk q.
-    then-done _ _ hk λ x y hx hy z.
+unfolding entry_forms
+entries_done v d form all [] {r = r} h w = record { list = none; those = refl; shows = tt; low = zero≤; text = moved w (ap (λ z. z.text ++ r) h) }
+entries_done v d form all (e ∷ es) {r = r} h w =
+    then_done _ _ h λ a b ha hb p.
+    then_done _ _ hb λ c k hc hk q.
+    then_done _ _ hk λ x y hx hy z.
     let kid = all e.id c hc in
-    let rest = entries-done v d form all es hy w in
+    let rest = entries_done v d form all es hy w in
     record {
       list = entry e kid.tree rest.list;
       those = ap (e ∷◌) rest.those;
       shows = (kid.shows, rest.shows);
       low = omega arith;
-      text = moved (said (entry-writes e) ha next kid.text next said close-writes hx next rest.text)
+      text = moved (said (entry_writes e) ha next kid.text next said close_writes hx next rest.text)
           (rw (← p, ← q, ← z) (simp append_assoc));
     }
 
-pub node_done : (v : View) (d i : ℕ) (s : List ℕ) → nodeForm v d i ≡ says s → TreeOf v d i s
-unfolding nodeForm
+pub node_done : (v : View) (d i : ℕ) (s : List ℕ) → node_form v d i ≡ says s → TreeOf v d i s
+unfolding node_form
 node_done v zero i s h = stopped TooDeep (ap (λ z. z.ended) h)
 node_done v (suc d) i s h =
-    reading-done _ _ h λ f hf h1.
-    then-done _ _ h1 λ a b ha h2 e1.
-    reading-done _ _ h2 λ l hl h3.
-    reading-done _ _ h3 λ es he h4.
-    then-done _ _ h4 λ p q hp h5 e2.
-    then-done _ _ h5 λ x y hx h6 e3.
-    then-done _ _ h6 λ z o hz ho e4.
-    let c = contents-done v f hx in
-    let k = attrs-done l c.it hp c.text in
-    let kids = entries-done v d (nodeForm v d) (node_done v d) es hz (said close-writes ho) in
+    reading_done _ _ h λ f hf h1.
+    then_done _ _ h1 λ a b ha h2 e1.
+    reading_done _ _ h2 λ l hl h3.
+    reading_done _ _ h3 λ es he h4.
+    then_done _ _ h4 λ p q hp h5 e2.
+    then_done _ _ h5 λ x y hx h6 e3.
+    then_done _ _ h6 λ z o hz ho e4.
+    let c = contents_done v f hx in
+    let k = attrs_done l c.it hp c.text in
+    let kids = entries_done v d (node_form v d) (node_done v d) es hz (said close_writes ho) in
     record {
       tree = node f k.list c.it kids.list;
       shows = (record { inode = hf; attributes = hl ∙ ap got k.those; entries = he ∙ ap got kids.those; contents = c.shows }, kids.shows);
       low = omega arith;
-      text = moved (said (node-writes f) ha next k.text next kids.text) (rw (← e1, ← e2, ← e3, ← e4) (simp append_assoc));
+      text = moved (said (node_writes f) ha next k.text next kids.text) (rw (← e1, ← e2, ← e3, ← e4) (simp append_assoc));
     }
 
 -- all above the foot
@@ -148,29 +148,29 @@ pub record Body (v : View) (s : List ℕ) : Type 0 where
   pub tree : Tree
   pub shows : Shows v 2 tree
   pub low : depth_of tree < levels
-  pub text : s ≡ volumeLine (v.rule).case_insensitive (v.rule).normalization_insensitive v.label (ofTree tree [])
+  pub text : s ≡ volume_line (v.rule).case_insensitive (v.rule).normalization_insensitive v.label (of_tree tree [])
 
-pub body-done : (v : View) {s : List ℕ} → says (volumeLine (v.rule).case_insensitive (v.rule).normalization_insensitive v.label []) then nodeForm v levels 2 ≡ says s → Body v s
-body-done v {s} h =
-    then-done _ _ h λ a b ha hb e.
+pub body_done : (v : View) {s : List ℕ} → says (volume_line (v.rule).case_insensitive (v.rule).normalization_insensitive v.label []) then node_form v levels 2 ≡ says s → Body v s
+body_done v {s} h =
+    then_done _ _ h λ a b ha hb e.
     let t = node_done v levels 2 b hb in
-    record { tree = t.tree; shows = t.shows; low = t.low; text = sym ((moved (said (volume-writes v.rule v.label) ha next t.text) e).before [] ∙ append-nil s) }
+    record { tree = t.tree; shows = t.shows; low = t.low; text = sym ((moved (said (volume_writes v.rule v.label) ha next t.text) e).before [] ∙ append-nil s) }
 
 -- the whole
 pub record Listed (v : View) (s : List ℕ) : Type 0 where
   pub tree : Tree
   pub shows : Shows v 2 tree
   pub low : depth_of tree < levels
-  pub text : s ≡ ofVolume v.rule v.label tree
+  pub text : s ≡ of_volume v.rule v.label tree
 
-pub trace-done : (v : View) {s : List ℕ} → trace v ≡ says s → Listed v s
+pub trace_done : (v : View) {s : List ℕ} → trace v ≡ says s → Listed v s
 unfolding trace footed
-trace-done v {s} h =
-    then-done _ _ h λ a b ha hb e.
-    let t = body-done v ha in
-    let last : footLines (totalsOf a) ≡ b = ap (λ (z : Trace). footLines (totalsOf z.text)) (sym ha) ∙ ap (λ (z : Trace). z.text) hb in
+trace_done v {s} h =
+    then_done _ _ h λ a b ha hb e.
+    let t = body_done v ha in
+    let last : foot_lines (totals_of a) ≡ b = ap (λ (z : Trace). foot_lines (totals_of z.text)) (sym ha) ∙ ap (λ (z : Trace). z.text) hb in
     record { tree = t.tree; shows = t.shows; low = t.low; text = sym e ∙ ap (a ++◌) (sym last) ∙ ap foot t.text }
 
-pub listing-done : (v : View) (m : ℕ) {s : List ℕ} → listing v m ≡ got s → Listed v s
+pub listing_done : (v : View) (m : ℕ) {s : List ℕ} → listing v m ≡ got s → Listed v s
 unfolding listing
-listing-done v m {s} h = trace-done v (within-done m _ s h)
+listing_done v m {s} h = trace_done v (within_done m _ s h)

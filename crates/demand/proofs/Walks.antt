@@ -9,22 +9,22 @@ use lib.Seq.{take_all}
 use Rattle.error.specs.Answer.{Answer, got, no, ◌>>=◌, pick}
 use Rattle.error.specs.declared.Refusal.{Refusal}
 use Rattle.error.specs.declared.Refusal.TheVariants.{Unsupported, NotFound, CharacterNotCovered}
-use Rattle.utf8.specs.Text.{sameBytes}
+use Rattle.utf8.specs.Text.{same_bytes}
 use Rattle.volume.specs.Rule.{insensitive}
-use Rattle.unicode.specs.Keys.{coveredText, sameKeys}
-use Rattle.paths.specs.Find.{exactMatch, keyMatch, findEntry}
+use Rattle.unicode_forms.specs.Keys.{covered_text, same_keys}
+use Rattle.paths.specs.Find.{exact_match, key_match, find_entry}
 use Rattle.volume.specs.declared.rule.NameRule.{NameRule}
 use Rattle.lines.specs.Shown.{InodeShown, EntryShown, AttributeShown, Contents, packed, plain}
 use Rattle.demand.specs.Tree.{Tree, node, Entries, none, entry}
 use Rattle.demand.specs.View.{View}
 use Rattle.demand.specs.Listing.{holding, is_packed}
-use Rattle.demand.specs.Lookup.{entryLabel, descend}
+use Rattle.demand.specs.Lookup.{entry_label, descend}
 use Rattle.demand.specs.Demand.{Met, here, nowhere, met, place, onward, follow, Agree, past, on}
 use Rattle.demand.specs.Shows.{heads, heard, ShowsNode, Shows, ShowsAll}
 
 -- what the demand rests on: the law of file reads, of each inode that there is, at every offset and length
 pub record Reads (v : View) : Type 0 where
-  pub of-packed : (i : ℕ) (f : InodeShown) → v.inode i ≡ got f → is_packed f ≡ true → (off len : ℕ) → v.read f.id off len ≡ no Unsupported
+  pub of_packed : (i : ℕ) (f : InodeShown) → v.inode i ≡ got f → is_packed f ≡ true → (off len : ℕ) → v.read f.id off len ≡ no Unsupported
   pub of_plain : (i : ℕ) (f : InodeShown) (bs : List ℕ) → v.inode i ≡ got f → is_packed f ≡ false → v.contents f.id ≡ got bs → (off len : ℕ) → v.read f.id off len ≡ got (take len (drop off bs))
 
 -- ---- file reads
@@ -34,16 +34,16 @@ abbrev pub read_of : Contents → ℕ → ℕ → Answer (List ℕ)
 read_of packed off len = no Unsupported
 read_of (plain bs) off len = got (take len (drop off bs))
 
-pub read-shown : (v : View) → Reads v → (i : ℕ) (f : InodeShown) (l : List (AttributeShown (List ℕ))) (c : Contents) (es : List EntryShown) → ShowsNode v i f l c es → (off len : ℕ) → v.read f.id off len ≡ read_of c off len
-read-shown v r i f l packed es h off len = r.of-packed i f h.inode h.contents off len
-read-shown v r i f l (plain bs) es h off len = r.of_plain i f bs h.inode h.contents.0 h.contents.1 off len
+pub read_shown : (v : View) → Reads v → (i : ℕ) (f : InodeShown) (l : List (AttributeShown (List ℕ))) (c : Contents) (es : List EntryShown) → ShowsNode v i f l c es → (off len : ℕ) → v.read f.id off len ≡ read_of c off len
+read_shown v r i f l packed es h off len = r.of_packed i f h.inode h.contents off len
+read_shown v r i f l (plain bs) es h off len = r.of_plain i f bs h.inode h.contents.0 h.contents.1 off len
 
 -- the contents, by all reads
-contents-read : (c d : Contents) → ((off len : ℕ) → read_of c off len ≡ read_of d off len) → c ≡ d
-contents-read packed packed h = refl
-contents-read packed (plain d) h = let e = h 0 0 in cc
-contents-read (plain b) packed h = let e = h 0 0 in cc
-contents-read (plain b) (plain d) h =
+contents_read : (c d : Contents) → ((off len : ℕ) → read_of c off len ≡ read_of d off len) → c ≡ d
+contents_read packed packed h = refl
+contents_read packed (plain d) h = let e = h 0 0 in cc
+contents_read (plain b) packed h = let e = h 0 0 in cc
+contents_read (plain b) (plain d) h =
     let e = h 0 (length b + length d) in
     let p = take_all (length b + length d) b (omega arith) in
     let q = take_all (length b + length d) d (omega arith) in
@@ -67,32 +67,32 @@ module _ (v w : View) where
 
   -- where two chains end: both nowhere, or at one node that both show
   pub data Ends (m n : Met) : Type 0 where
-    ends-past : m ≡ nowhere → n ≡ nowhere → Ends m n
+    ends_past : m ≡ nowhere → n ≡ nowhere → Ends m n
     ends_on : (i : ℕ) (f : InodeShown) (l : List (AttributeShown (List ℕ))) (c : Contents) (es : List EntryShown) → ShowsNode v i f l c es → ShowsNode w i f l c es → m ≡ here f → n ≡ here f → Ends m n
 
-pub follow-nowhere : (v : View) (c : List ℕ) → follow v nowhere c ≡ nowhere
+pub follow_nowhere : (v : View) (c : List ℕ) → follow v nowhere c ≡ nowhere
 unfolding follow onward
-follow-nowhere v [] = refl
-follow-nowhere v (k ∷ c) = follow-nowhere v c
+follow_nowhere v [] = refl
+follow_nowhere v (k ∷ c) = follow_nowhere v c
 
-onward-shown : (v : View) (i : ℕ) (f : InodeShown) (l : List (AttributeShown (List ℕ))) (d : Contents) (es : List EntryShown) → ShowsNode v i f l d es → (k : ℕ) → onward v (met (v.inode i)) k ≡ place v es k
+onward_shown : (v : View) (i : ℕ) (f : InodeShown) (l : List (AttributeShown (List ℕ))) (d : Contents) (es : List EntryShown) → ShowsNode v i f l d es → (k : ℕ) → onward v (met (v.inode i)) k ≡ place v es k
 unfolding onward
-onward-shown v i f l d es p k = rw (p.inode, onward, p.entries)
+onward_shown v i f l d es p k = rw (p.inode, onward, p.entries)
 
 module _ (v w : View) where
-  ends-below : (c : List ℕ) → ((i : ℕ) (t : Tree) → Shows v i t → Shows w i t → Ends v w (follow v (met (v.inode i)) c) (follow w (met (w.inode i)) c))
+  ends_below : (c : List ℕ) → ((i : ℕ) (t : Tree) → Shows v i t → Shows w i t → Ends v w (follow v (met (v.inode i)) c) (follow w (met (w.inode i)) c))
       → (es : List EntryShown) → Every (Both v w) es → (k : ℕ) → Ends v w (follow v (place v es k) c) (follow w (place w es k) c)
   unfolding place
-  ends-below c all [] p k = ends-past (follow-nowhere v c) (follow-nowhere w c)
-  ends-below c all (e ∷ es) p zero = all e.id p.0.0 p.0.1 p.0.2
-  ends-below c all (e ∷ es) p (suc k) = ends-below c all es p.1 k
+  ends_below c all [] p k = ends_past (follow_nowhere v c) (follow_nowhere w c)
+  ends_below c all (e ∷ es) p zero = all e.id p.0.0 p.0.1 p.0.2
+  ends_below c all (e ∷ es) p (suc k) = ends_below c all es p.1 k
 
   pub ends : (c : List ℕ) (i : ℕ) (t : Tree) → Shows v i t → Shows w i t → Ends v w (follow v (met (v.inode i)) c) (follow w (met (w.inode i)) c)
   unfolding follow
   ends [] i (node f l d es) p q = ends_on i f l d (heads es) p.0 q.0 (ap met p.0.inode) (ap met q.0.inode)
   ends (k ∷ c) i (node f l d es) p q =
-      rw (onward-shown v i f l d (heads es) p.0 k, onward-shown w i f l d (heads es) q.0 k)
-      (ends-below c (ends c) (heads es) (both v w es p.1 q.1) k)
+      rw (onward_shown v i f l d (heads es) p.0 k, onward_shown w i f l d (heads es) q.0 k)
+      (ends_below c (ends c) (heads es) (both v w es p.1 q.1) k)
 
 -- ---- one view, one tree
 
@@ -102,9 +102,9 @@ record Alike (v w : View) (f g : InodeShown) : Type 0 where
   attributes : v.attributes f.id ≡ w.attributes g.id
   reads : (off len : ℕ) → v.read f.id off len ≡ w.read g.id off len
 
-agree-here : (v w : View) {m n : Met} (f g : InodeShown) → m ≡ here f → n ≡ here g → Agree v w m n → Alike v w f g
-agree-here v w f g p q (past h k) = let z : ◌≡◌ {A = ℕ} 0 1 = cc in absurd (omega arith)
-agree-here v w f g p q (on x h k e a r) =
+agree_here : (v w : View) {m n : Met} (f g : InodeShown) → m ≡ here f → n ≡ here g → Agree v w m n → Alike v w f g
+agree_here v w f g p q (past h k) = let z : ◌≡◌ {A = ℕ} 0 1 = cc in absurd (omega arith)
+agree_here v w f g p q (on x h k e a r) =
     let hf : x ≡ f = cc in
     let hg : x ≡ g = cc in
     record { fields = cc; entries = cc; attributes = cc; reads = λ off len. let z = r off len in cc }
@@ -118,21 +118,21 @@ unheard : (l : List (AttributeShown (List ℕ))) → map (λ (a : AttributeShown
 unheard [] = refl
 unheard (a ∷ l) = ap (a ∷◌) (unheard l)
 
-pub heard-same : (l m : List (AttributeShown (List ℕ))) → map heard l ≡ map heard m → l ≡ m
-heard-same l m h = sym (unheard l) ∙ ap (map (λ (a : AttributeShown (Answer (List ℕ))). holding a (value a.contents))) h ∙ unheard m
+pub heard_same : (l m : List (AttributeShown (List ℕ))) → map heard l ≡ map heard m → l ≡ m
+heard_same l m h = sym (unheard l) ∙ ap (map (λ (a : AttributeShown (Answer (List ℕ))). holding a (value a.contents))) h ∙ unheard m
 
 module _ (v w : View) where
   -- along every chain from the one and from the other
   abbrev pub Along : Met → Met → Type 0
   Along m n = (c : List ℕ) → Agree v w (follow v m c) (follow w n c)
 
-  along-head : (e e' : EntryShown) (es fs : List EntryShown) → ((k : ℕ) → Along (place v (e ∷ es) k) (place w (e' ∷ fs) k)) → Along (met (v.inode e.id)) (met (w.inode e'.id))
+  along_head : (e e' : EntryShown) (es fs : List EntryShown) → ((k : ℕ) → Along (place v (e ∷ es) k) (place w (e' ∷ fs) k)) → Along (met (v.inode e.id)) (met (w.inode e'.id))
   unfolding place
-  along-head e e' es fs all = all 0
+  along_head e e' es fs all = all 0
 
-  along-tail : (e e' : EntryShown) (es fs : List EntryShown) → ((k : ℕ) → Along (place v (e ∷ es) k) (place w (e' ∷ fs) k)) → (k : ℕ) → Along (place v es k) (place w fs k)
+  along_tail : (e e' : EntryShown) (es fs : List EntryShown) → ((k : ℕ) → Along (place v (e ∷ es) k) (place w (e' ∷ fs) k)) → (k : ℕ) → Along (place v es k) (place w fs k)
   unfolding place
-  along-tail e e' es fs all k = all (suc k)
+  along_tail e e' es fs all k = all (suc k)
 
   -- one node
   record OneNode (f g : InodeShown) (l k : List (AttributeShown (List ℕ))) (c d : Contents) (es fs : List EntryShown) : Type 0 where
@@ -142,11 +142,11 @@ module _ (v w : View) where
     entries : es ≡ fs
     below : (k : ℕ) → Along (place v es k) (place w fs k)
 
-  one-node : Reads v → Reads w → (i j : ℕ) (f g : InodeShown) (l k : List (AttributeShown (List ℕ))) (c d : Contents) (es fs : List EntryShown) → ShowsNode v i f l c es → ShowsNode w j g k d fs
+  one_node : Reads v → Reads w → (i j : ℕ) (f g : InodeShown) (l k : List (AttributeShown (List ℕ))) (c d : Contents) (es fs : List EntryShown) → ShowsNode v i f l c es → ShowsNode w j g k d fs
       → Along (met (v.inode i)) (met (w.inode j)) → OneNode f g l k c d es fs
   unfolding follow
-  one-node rv rw' i j f g l k c d es fs p q all =
-      let a = agree-here v w f g (ap met p.inode) (ap met q.inode) (all []) in
+  one_node rv rw' i j f g l k c d es fs p q all =
+      let a = agree_here v w f g (ap met p.inode) (ap met q.inode) (all []) in
       let pa = p.attributes in
       let qa = q.attributes in
       let pe = p.entries in
@@ -157,26 +157,26 @@ module _ (v w : View) where
       let le : es ≡ fs = cc in
       record {
         fields = a.fields;
-        attrs = heard-same l k la;
-        contents = contents-read c d (λ off len. sym (read-shown v rv i f l c es p off len) ∙ a.reads off len ∙ read-shown w rw' j g k d fs q off len);
+        attrs = heard_same l k la;
+        contents = contents_read c d (λ off len. sym (read_shown v rv i f l c es p off len) ∙ a.reads off len ∙ read_shown w rw' j g k d fs q off len);
         entries = le;
-        below = λ n. rw (← onward-shown v i f l c es p n, ← onward-shown w j g k d fs q n) (λ r. all (n ∷ r));
+        below = λ n. rw (← onward_shown v i f l c es p n, ← onward_shown w j g k d fs q n) (λ r. all (n ∷ r));
       }
 
   mutual
-    pub tree-same : Reads v → Reads w → (t u : Tree) (i j : ℕ) → Shows v i t → Shows w j u → Along (met (v.inode i)) (met (w.inode j)) → t ≡ u
-    tree-same rv rw' (node f l c es) (node g k d fs) i j p q all =
-        let o = one-node rv rw' i j f g l k c d (heads es) (heads fs) p.0 q.0 all in
-        let r = entries-same rv rw' es fs o.entries p.1 q.1 o.below in
+    pub tree_same : Reads v → Reads w → (t u : Tree) (i j : ℕ) → Shows v i t → Shows w j u → Along (met (v.inode i)) (met (w.inode j)) → t ≡ u
+    tree_same rv rw' (node f l c es) (node g k d fs) i j p q all =
+        let o = one_node rv rw' i j f g l k c d (heads es) (heads fs) p.0 q.0 all in
+        let r = entries_same rv rw' es fs o.entries p.1 q.1 o.below in
         λ i. node (o.fields i) (o.attrs i) (o.contents i) (r i)
 
-    entries-same : Reads v → Reads w → (es fs : Entries) → heads es ≡ heads fs → ShowsAll v es → ShowsAll w fs → ((k : ℕ) → Along (place v (heads es) k) (place w (heads fs) k)) → es ≡ fs
-    entries-same rv rw' none none h p q all = refl
-    entries-same rv rw' none (entry b u fs) h p q all = let z : ◌≡◌ {A = ℕ} 0 1 = cc in absurd (omega arith)
-    entries-same rv rw' (entry a t es) none h p q all = let z : ◌≡◌ {A = ℕ} 0 1 = cc in absurd (omega arith)
-    entries-same rv rw' (entry a t es) (entry b u fs) h p q all =
-        let x = tree-same rv rw' t u a.id b.id p.0 q.0 (along-head a b (heads es) (heads fs) all) in
-        let r = entries-same rv rw' es fs (tail-eq_of_cons-eq h) p.1 q.1 (along-tail a b (heads es) (heads fs) all) in
+    entries_same : Reads v → Reads w → (es fs : Entries) → heads es ≡ heads fs → ShowsAll v es → ShowsAll w fs → ((k : ℕ) → Along (place v (heads es) k) (place w (heads fs) k)) → es ≡ fs
+    entries_same rv rw' none none h p q all = refl
+    entries_same rv rw' none (entry b u fs) h p q all = let z : ◌≡◌ {A = ℕ} 0 1 = cc in absurd (omega arith)
+    entries_same rv rw' (entry a t es) none h p q all = let z : ◌≡◌ {A = ℕ} 0 1 = cc in absurd (omega arith)
+    entries_same rv rw' (entry a t es) (entry b u fs) h p q all =
+        let x = tree_same rv rw' t u a.id b.id p.0 q.0 (along_head a b (heads es) (heads fs) all) in
+        let r = entries_same rv rw' es fs (tail-eq_of_cons-eq h) p.1 q.1 (along_tail a b (heads es) (heads fs) all) in
         λ i. entry (head-eq_of_cons-eq h i) (x i) (r i)
 
 -- ---- lookups
@@ -187,45 +187,45 @@ Holds P (got e) = P e
 Holds P (no n) = Unit
 
 module _ (P : EntryShown → Type 0) where
-  pick-holds : (b : Bool) (x y : Answer EntryShown) → Holds P x → Holds P y → Holds P (pick b x y)
-  pick-holds true x y p q = p
-  pick-holds false x y p q = q
+  pick_holds : (b : Bool) (x y : Answer EntryShown) → Holds P x → Holds P y → Holds P (pick b x y)
+  pick_holds true x y p q = p
+  pick_holds false x y p q = q
 
-  exact-holds : (p : List ℕ) (es : List EntryShown) (other : Answer EntryShown) → Every P es → Holds P other → Holds P (exactMatch entryLabel p es other)
-  unfolding exactMatch
-  exact-holds p [] other h k = k
-  exact-holds p (e ∷ es) other h k = pick-holds (sameBytes p e.label) _ _ h.0 (exact-holds p es other h.1 k)
+  exact_holds : (p : List ℕ) (es : List EntryShown) (other : Answer EntryShown) → Every P es → Holds P other → Holds P (exact_match entry_label p es other)
+  unfolding exact_match
+  exact_holds p [] other h k = k
+  exact_holds p (e ∷ es) other h k = pick_holds (same_bytes p e.label) _ _ h.0 (exact_holds p es other h.1 k)
 
   module _ (r : NameRule) (p : List ℕ) where
-    key-holds : (es : List EntryShown) → Every P es → Holds P (keyMatch r entryLabel p es)
-    unfolding keyMatch
-    key-holds [] h = tt
-    key-holds (e ∷ es) h = pick-holds (coveredText e.label) _ (no CharacterNotCovered) (pick-holds (sameKeys r.case_insensitive p e.label) (got e) _ h.0 (key-holds es h.1)) tt
+    key_holds : (es : List EntryShown) → Every P es → Holds P (key_match r entry_label p es)
+    unfolding key_match
+    key_holds [] h = tt
+    key_holds (e ∷ es) h = pick_holds (covered_text e.label) _ (no CharacterNotCovered) (pick_holds (same_keys r.case_insensitive p e.label) (got e) _ h.0 (key_holds es h.1)) tt
 
-    find-holds : (es : List EntryShown) → Every P es → Holds P (findEntry r entryLabel p es)
-    unfolding findEntry
-    find-holds es h = exact-holds p es _ h (pick-holds (insensitive r) _ (no NotFound) (pick-holds (coveredText p) _ (no CharacterNotCovered) (key-holds es h) tt) tt)
+    find_holds : (es : List EntryShown) → Every P es → Holds P (find_entry r entry_label p es)
+    unfolding find_entry
+    find_holds es h = exact_holds p es _ h (pick_holds (insensitive r) _ (no NotFound) (pick_holds (covered_text p) _ (no CharacterNotCovered) (key_holds es h) tt) tt)
 
-descend-no : (v : View) (n : Refusal) (ps : List (List ℕ)) → descend v (no n) ps ≡ no n
+descend_no : (v : View) (n : Refusal) (ps : List (List ℕ)) → descend v (no n) ps ≡ no n
 unfolding descend
-descend-no v n [] = refl
-descend-no v n (p ∷ ps) = descend-no v n ps
+descend_no v n [] = refl
+descend_no v n (p ∷ ps) = descend_no v n ps
 
-descend-node : (v : View) (i : ℕ) (f : InodeShown) (l : List (AttributeShown (List ℕ))) (d : Contents) (es : List EntryShown) → ShowsNode v i f l d es → (p : List ℕ) (ps : List (List ℕ))
-    → descend v (v.inode i) (p ∷ ps) ≡ descend v (findEntry v.rule entryLabel p es >>= λ e. v.inode e.id) ps
+descend_node : (v : View) (i : ℕ) (f : InodeShown) (l : List (AttributeShown (List ℕ))) (d : Contents) (es : List EntryShown) → ShowsNode v i f l d es → (p : List ℕ) (ps : List (List ℕ))
+    → descend v (v.inode i) (p ∷ ps) ≡ descend v (find_entry v.rule entry_label p es >>= λ e. v.inode e.id) ps
 unfolding descend
-descend-node v i f l d es h p ps = rw (h.inode, h.entries)
+descend_node v i f l d es h p ps = rw (h.inode, h.entries)
 
 module _ (v w : View) (hr : v.rule ≡ w.rule) where
-  descend-below : (ps : List (List ℕ)) → ((i : ℕ) (t : Tree) → Shows v i t → Shows w i t → descend v (v.inode i) ps ≡ descend w (w.inode i) ps)
+  descend_below : (ps : List (List ℕ)) → ((i : ℕ) (t : Tree) → Shows v i t → Shows w i t → descend v (v.inode i) ps ≡ descend w (w.inode i) ps)
       → (r : Answer EntryShown) → Holds (Both v w) r → descend v (r >>= λ e. v.inode e.id) ps ≡ descend w (r >>= λ e. w.inode e.id) ps
-  descend-below ps all (got e) h = all e.id h.0 h.1 h.2
-  descend-below ps all (no n) h = descend-no v n ps ∙ sym (descend-no w n ps)
+  descend_below ps all (got e) h = all e.id h.0 h.1 h.2
+  descend_below ps all (no n) h = descend_no v n ps ∙ sym (descend_no w n ps)
 
-  pub descend-same : (ps : List (List ℕ)) (i : ℕ) (t : Tree) → Shows v i t → Shows w i t → descend v (v.inode i) ps ≡ descend w (w.inode i) ps
+  pub descend_same : (ps : List (List ℕ)) (i : ℕ) (t : Tree) → Shows v i t → Shows w i t → descend v (v.inode i) ps ≡ descend w (w.inode i) ps
   unfolding descend
-  descend-same [] i (node f l d es) p q = p.0.inode ∙ sym q.0.inode
-  descend-same (x ∷ ps) i (node f l d es) p q =
-      descend-node v i f l d (heads es) p.0 x ps
-      ∙ descend-below ps (descend-same ps) (findEntry v.rule entryLabel x (heads es)) (find-holds (Both v w) v.rule x (heads es) (both v w es p.1 q.1))
-      ∙ rw hr (sym (descend-node w i f l d (heads es) q.0 x ps))
+  descend_same [] i (node f l d es) p q = p.0.inode ∙ sym q.0.inode
+  descend_same (x ∷ ps) i (node f l d es) p q =
+      descend_node v i f l d (heads es) p.0 x ps
+      ∙ descend_below ps (descend_same ps) (find_entry v.rule entry_label x (heads es)) (find_holds (Both v w) v.rule x (heads es) (both v w es p.1 q.1))
+      ∙ rw hr (sym (descend_node w i f l d (heads es) q.0 x ps))

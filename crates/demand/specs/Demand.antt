@@ -1,4 +1,4 @@
--- THE THIRD DEMAND: what it says. Document 01, "The listing (added)", "For demand 3 ..". It is proved, as `third-demand`, in proofs/Demand.antt.
+-- THE THIRD DEMAND: what it says. Document 01, "The listing (added)", "For demand 3 ..". It is proved, as `third_demand`, in proofs/Demand.antt.
 --
 -- Of any two images, any checkpoints and volume indexes in them and any lengths of the two buffers, such that neither listing is refused:
 --   1. the two texts are equal exactly where the volumes are the same: label and name rule are equal, and every chain of positions, of any length,
@@ -9,9 +9,9 @@
 -- And 4. under a listing that is not refused no chain meets a refusal, nor do the entries, attributes and contents where it leads.
 -- That is said of any lister (`DemandOn`), and of ours (`ThirdDemand`); which listers it shuts out stands in Listers.antt.
 --
--- Of which calls: opening (`volumeOfImage`), `inode`, `read_dir`, `xattrs`, `read_xattr`, `read_at` and `lookup_path` by the definitions that their
--- contracts cite (`inodeOf`, `entriesOf`, `attributesOf`, `contentsOf`, `readFile`, `lookupPath`), and the listing by `listingOf`; each of the part of the
--- image that a container is in (`onPart`, in gpt: document 02, request 01). Names and the label are lossily read; places in the image and node counts are
+-- Of which calls: opening (`volume_of_image`), `inode`, `read_dir`, `xattrs`, `read_xattr`, `read_at` and `lookup_path` by the definitions that their
+-- contracts cite (`inode_of`, `entries_of`, `attributes_of`, `contents_of`, `read_file`, `lookup_path`), and the listing by `listing_of`; each of the part of the
+-- image that a container is in (`on_part`, in gpt: document 02, request 01). Names and the label are lossily read; places in the image and node counts are
 -- left out, and no answer depends on a count (proofs/Counts.antt). What that gives for the texts of `apfs_lookup`, `apfs_read`, `apfs_entry`,
 -- `apfs_entries`, `apfs_xattr`, `apfs_xattr_bytes` and `apfs_link` stands in apfs, proofs/Alike.antt.
 --
@@ -20,62 +20,62 @@
 use Rattle.std.specs.Prelude.{ℕ, zero, suc, ◌-◌, ◌^◌, ◌≤◌, ◌<◌, ◌≡◌, true, ◌↔◌, ◌⊎◌, List, [], ◌∷◌, map, get_or}
 use Rattle.error.specs.Answer.{Answer, got, no, ◌>>=◌}
 use Rattle.error.specs.declared.Refusal.{Refusal}
-use Rattle.gpt.specs.Part.{onPart}
+use Rattle.gpt.specs.Part.{on_part}
 use Rattle.utf8.specs.Text.{lossy}
 use Rattle.lookup.specs.Counted.{after, onto}
-use Rattle.volume.specs.Open.{volumeOfImage}
+use Rattle.volume.specs.Open.{volume_of_image}
 use Rattle.volume.specs.declared.Volume.{Volume}
 use Rattle.volume.specs.declared.Which.{Which}
 use Rattle.records.specs.declared.attribute.Attribute.{Attribute}
 use Rattle.label.specs.Label.{label_of}
-use Rattle.lists.specs.Lists.{rootId, inodeOf, entriesOf, attributesOf}
-use Rattle.files.specs.File.{readFile, readWhole}
-use Rattle.links.specs.Link.{contentsOf}
-use Rattle.volume.specs.Rule.{ruleOf}
-use Rattle.paths.specs.Lookup.{lookupPath}
-use Rattle.lines.specs.Shown.{InodeShown, EntryShown, AttributeShown, inodeShown, entryShown, attributeShown}
+use Rattle.lists.specs.Lists.{root_id, inode_of, entries_of, attributes_of}
+use Rattle.files.specs.File.{read_file, read_whole}
+use Rattle.links.specs.Link.{contents_of}
+use Rattle.volume.specs.Rule.{rule_of}
+use Rattle.paths.specs.Lookup.{lookup_path}
+use Rattle.lines.specs.Shown.{InodeShown, EntryShown, AttributeShown, inode_shown, entry_shown, attribute_shown}
 use Rattle.demand.specs.View.{View}
 use Rattle.demand.specs.Listing.{is_packed, listing}
 
 -- ---- what a volume answers. Each call begins here at a node count of 0
 
 -- nx.rs, the `name` of `ApfsSuperblock`: "LABEL and NAME are lossy readings"
-unfoldable pub labelShown : List ℕ → Volume → List ℕ
-labelShown image v = lossy (label_of image v)
+unfoldable pub label_shown : List ℕ → Volume → List ℕ
+label_shown image v = lossy (label_of image v)
 
 -- fs.rs, `inode`: "inode fields are those on the node's line"
-unfoldable pub inodeAnswer : List ℕ → Volume → ℕ → Answer InodeShown
-inodeAnswer image v id = (inodeOf image v id 0).answer >>= λ i. got (inodeShown v.reader image i)
+unfoldable pub inode_answer : List ℕ → Volume → ℕ → Answer InodeShown
+inode_answer image v id = (inode_of image v id 0).answer >>= λ i. got (inode_shown v.reader image i)
 
 -- fs.rs, `read_dir`: "Entries go by ID, DATE, KIND and NAME"
-unfoldable pub entriesAnswer : List ℕ → Volume → ℕ → Answer (List EntryShown)
-entriesAnswer image v id = (entriesOf image v id 0).answer >>= λ es. got (map (entryShown v.reader image) es)
+unfoldable pub entries_answer : List ℕ → Volume → ℕ → Answer (List EntryShown)
+entries_answer image v id = (entries_of image v id 0).answer >>= λ es. got (map (entry_shown v.reader image) es)
 
 -- "each attribute with the contents of its own record or stream"
-abbrev pub withContents : List ℕ → Volume → Attribute → AttributeShown (Answer (List ℕ))
-withContents image v a = attributeShown v.reader image a (contentsOf image v a 0).answer
+abbrev pub with_contents : List ℕ → Volume → Attribute → AttributeShown (Answer (List ℕ))
+with_contents image v a = attribute_shown v.reader image a (contents_of image v a 0).answer
 
 -- fs.rs, `xattrs`, and of each `read_xattr`
-unfoldable pub attributesAnswer : List ℕ → Volume → ℕ → Answer (List (AttributeShown (Answer (List ℕ))))
-attributesAnswer image v id = (attributesOf image v id 0).answer >>= λ l. got (map (withContents image v) l)
+unfoldable pub attributes_answer : List ℕ → Volume → ℕ → Answer (List (AttributeShown (Answer (List ℕ))))
+attributes_answer image v id = (attributes_of image v id 0).answer >>= λ l. got (map (with_contents image v) l)
 
 -- a file's bytes as the listing reads them: with the test on extents, "in a listing, also one that starts before its predecessor's end"
-unfoldable pub contentsAnswer : List ℕ → Volume → ℕ → Answer (List ℕ)
-contentsAnswer image v id = (inodeOf image v id 0).answer >>= λ i. (readWhole image v i 0).answer
+unfoldable pub contents_answer : List ℕ → Volume → ℕ → Answer (List ℕ)
+contents_answer image v id = (inode_of image v id 0).answer >>= λ i. (read_whole image v i 0).answer
 
 -- fs.rs, `read_at`: "the count and bytes that `read_at` gives or .. its refusal number"
-unfoldable pub readAnswer : List ℕ → Volume → ℕ → ℕ → ℕ → Answer (List ℕ)
-readAnswer image v id off len = (inodeOf image v id 0).answer >>= λ i. (readFile image v i off len 0).answer
+unfoldable pub read_answer : List ℕ → Volume → ℕ → ℕ → ℕ → Answer (List ℕ)
+read_answer image v id off len = (inode_of image v id 0).answer >>= λ i. (read_file image v i off len 0).answer
 
 abbrev pub view_of : List ℕ → Volume → View
 view_of image v = record {
-  label = labelShown image v;
-  rule = ruleOf v;
-  inode = inodeAnswer image v;
-  entries = entriesAnswer image v;
-  attributes = attributesAnswer image v;
-  contents = contentsAnswer image v;
-  read = readAnswer image v;
+  label = label_shown image v;
+  rule = rule_of v;
+  inode = inode_answer image v;
+  entries = entries_answer image v;
+  attributes = attributes_answer image v;
+  contents = contents_answer image v;
+  read = read_answer image v;
 }
 
 -- an image is a list of bytes
@@ -85,28 +85,28 @@ Bytes image = (i : ℕ) → get_or image i 0 < 256
 -- ---- of the bytes of a container
 
 -- a volume, at a checkpoint
-unfoldable pub viewOfPart : List ℕ → Which → Answer View
-viewOfPart part w = (volumeOfImage part w).answer >>= λ v. got (view_of part v)
+unfoldable pub view_of_part : List ℕ → Which → Answer View
+view_of_part part w = (volume_of_image part w).answer >>= λ v. got (view_of part v)
 
 -- its listing into a buffer of `room` bytes: "answered for a volume opened from an image, whatever the buffer's length"
-unfoldable pub listingOfPart : List ℕ → Which → ℕ → Answer (List ℕ)
-listingOfPart part w room = viewOfPart part w >>= λ v. listing v room
+unfoldable pub listing_of_part : List ℕ → Which → ℕ → Answer (List ℕ)
+listing_of_part part w room = view_of_part part w >>= λ v. listing v room
 
 -- fs.rs, `lookup_path`: "A lookup goes by its whole answer, less what is left out of the comparison"
-unfoldable pub lookupOfPart : List ℕ → Which → List ℕ → Answer InodeShown
-lookupOfPart part w path =
-    (onto (volumeOfImage part w) (λ v s. onto (lookupPath part v path s) λ i t. after t (got (inodeShown v.reader part i)))).answer
+unfoldable pub lookup_of_part : List ℕ → Which → List ℕ → Answer InodeShown
+lookup_of_part part w path =
+    (onto (volume_of_image part w) (λ v s. onto (lookup_path part v path s) λ i t. after t (got (inode_shown v.reader part i)))).answer
 
 -- ---- of an image. Document 02, request 01: "Everything after reads that part as its whole image"
 
-unfoldable pub viewAt : List ℕ → Which → Answer View
-viewAt image w = onPart (λ p. viewOfPart p w) image
+unfoldable pub view_at : List ℕ → Which → Answer View
+view_at image w = on_part (λ p. view_of_part p w) image
 
-unfoldable pub listingOf : List ℕ → Which → ℕ → Answer (List ℕ)
-listingOf image w room = onPart (λ p. listingOfPart p w room) image
+unfoldable pub listing_of : List ℕ → Which → ℕ → Answer (List ℕ)
+listing_of image w room = on_part (λ p. listing_of_part p w room) image
 
-unfoldable pub lookupOf : List ℕ → Which → List ℕ → Answer InodeShown
-lookupOf image w path = onPart (λ p. lookupOfPart p w path) image
+unfoldable pub lookup_of : List ℕ → Which → List ℕ → Answer InodeShown
+lookup_of image w path = on_part (λ p. lookup_of_part p w path) image
 
 -- ---- when two volumes answer the same
 
@@ -142,7 +142,7 @@ follow v m (k ∷ c) = follow v (onward v m k) c
 
 -- "A chain is a list of positions counted from 0, of any length. The empty chain leads to the `root` inode"
 abbrev pub chain : View → List ℕ → Met
-chain v c = follow v (met (v.inode rootId)) c
+chain v c = follow v (met (v.inode root_id)) c
 
 -- what two volumes give where a chain leads: it leads nowhere on both; or on both to an inode, with the same fields, entries, attributes with their
 -- contents, and the same answer to a file read at every offset and length
@@ -154,7 +154,7 @@ pub data Agree (v w : View) (m n : Met) : Type 0 where
 -- the same where reads are compared only at the offsets and lengths up to `most`
 pub data AgreeTo (most : ℕ) (v w : View) (m n : Met) : Type 0 where
   past_to : m ≡ nowhere → n ≡ nowhere → AgreeTo most v w m n
-  on-to : (f : InodeShown) → m ≡ here f → n ≡ here f → v.entries f.id ≡ w.entries f.id → v.attributes f.id ≡ w.attributes f.id
+  on_to : (f : InodeShown) → m ≡ here f → n ≡ here f → v.entries f.id ≡ w.entries f.id → v.attributes f.id ≡ w.attributes f.id
       → ((off len : ℕ) → off ≤ most → len ≤ most → v.read f.id off len ≡ w.read f.id off len) → AgreeTo most v w m n
 
 -- label, name rule and, along every chain, what is given where it leads
@@ -195,7 +195,7 @@ AllAnswered (a ∷ l) = Answered a.contents × AllAnswered l
 -- a chain that leads nowhere, or to an inode whose entries and attributes are read, each attribute's contents, and the file's, unless it is packed
 pub data Unrefused (v : View) (m : Met) : Type 0 where
   past_end : m ≡ nowhere → Unrefused v m
-  at-inode : (f : InodeShown) → m ≡ here f → Answered (v.entries f.id)
+  at_inode : (f : InodeShown) → m ≡ here f → Answered (v.entries f.id)
       → (l : List (AttributeShown (Answer (List ℕ)))) → v.attributes f.id ≡ got l → AllAnswered l
       → (is_packed f ≡ true) ⊎ Answered (v.contents f.id) → Unrefused v m
 
@@ -214,7 +214,7 @@ pub record DemandOn (view : List ℕ → Which → Answer View) (find : List ℕ
   pub listings : (a b : List ℕ) (i j : Which) (m n : ℕ) (t u : List ℕ) → lister a i m ≡ got t → lister b j n ≡ got u
       → (t ≡ u) ↔ SameVolumes (view a i) (view b j)
   -- 2. the same for the reads that a caller can ask
-  pub listings-to : (a b : List ℕ) (i j : Which) (m n : ℕ) (t u : List ℕ) → Bytes a → Bytes b → lister a i m ≡ got t → lister b j n ≡ got u
+  pub listings_to : (a b : List ℕ) (i j : Which) (m n : ℕ) (t u : List ℕ) → Bytes a → Bytes b → lister a i m ≡ got t → lister b j n ≡ got u
       → (t ≡ u) ↔ SameVolumesTo (2 ^ 64 - 1) (view a i) (view b j)
   -- 3. every path gets the same answer, or the same refusal
   pub lookups : (a b : List ℕ) (i j : Which) (m n : ℕ) (t u : List ℕ) → lister a i m ≡ got t → lister b j n ≡ got u → t ≡ u
@@ -224,4 +224,4 @@ pub record DemandOn (view : List ℕ → Which → Answer View) (find : List ℕ
 
 -- of the listing, on volumes opened from images
 abbrev pub ThirdDemand : Type 0
-ThirdDemand = DemandOn viewAt lookupOf listingOf
+ThirdDemand = DemandOn view_at lookup_of listing_of

@@ -9,19 +9,19 @@
 --      and is no 6, is the measurement's;
 --   5. the depth is that of the one tree that the volume shows, at most 64.
 use Rattle.std.specs.Prelude.{ℕ, zero, suc, max, ◌-◌, ◌^◌, ◌≤◌, ◌<◌, ◌≡◌, ◌⊎◌, List, [], ◌∷◌, length}
-use Rattle.error.specs.Answer.{Answer, got, no, ◌>>=◌, number_of, ifEq}
+use Rattle.error.specs.Answer.{Answer, got, no, ◌>>=◌, number_of, if_eq}
 use Rattle.error.specs.declared.Refusal.{Refusal}
 use Rattle.error.specs.declared.Refusal.TheVariants.{BufferTooShort, TooLong}
-use Rattle.gpt.specs.Part.{onPart}
+use Rattle.gpt.specs.Part.{on_part}
 use Rattle.volume.specs.declared.Which.{Which}
-use Rattle.lists.specs.Lists.{rootId}
+use Rattle.lists.specs.Lists.{root_id}
 use Rattle.lines.specs.Shown.{EntryShown}
 use Rattle.demand.specs.Trace.{stop}
 use Rattle.demand.specs.View.{View}
 use Rattle.demand.specs.Listing.{levels, trace, listing}
 use Rattle.demand.specs.Tree.{Tree, depth_of}
 use Rattle.demand.specs.Shows.{Shows}
-use Rattle.demand.specs.Demand.{viewOfPart, viewAt, listingOf}
+use Rattle.demand.specs.Demand.{view_of_part, view_at, listing_of}
 
 -- document 02, request 09: "the length in bytes and the greatest depth of a listing"
 pub record Measure : Type 0 where
@@ -33,36 +33,36 @@ abbrev pub most : ℕ
 most = 2 ^ 32 - 1
 
 -- "the greatest depth", of a node's entries, where `deep` is how far below the node of an id the deepest one lies
-abbrev pub deepestOf : (ℕ → ℕ) → List EntryShown → ℕ
-deepestOf deep [] = 0
-deepestOf deep (e ∷ es) = max (suc (deep e.id)) (deepestOf deep es)
+abbrev pub deepest_of : (ℕ → ℕ) → List EntryShown → ℕ
+deepest_of deep [] = 0
+deepest_of deep (e ∷ es) = max (suc (deep e.id)) (deepest_of deep es)
 
 -- nothing lies below what can't be read
-abbrev pub deepestIn : (ℕ → ℕ) → Answer (List EntryShown) → ℕ
-deepestIn deep (got es) = deepestOf deep es
-deepestIn deep (no e) = 0
+abbrev pub deepest_in : (ℕ → ℕ) → Answer (List EntryShown) → ℕ
+deepest_in deep (got es) = deepest_of deep es
+deepest_in deep (no e) = 0
 
 -- how far below the node of that id the deepest one lies, where so many levels are left, its own counted
 unfoldable pub deepest : View → ℕ → ℕ → ℕ
 deepest v zero i = 0
-deepest v (suc d) i = deepestIn (deepest v d) (v.inode i >>= λ f. v.entries f.id)
+deepest v (suc d) i = deepest_in (deepest v d) (v.inode i >>= λ f. v.entries f.id)
 
 -- of a listing, its length; and 14 in the place of its 6
-abbrev pub ofListing : ℕ → Answer (List ℕ) → Answer Measure
-ofListing depth (got t) = got (record { length = length t; depth = depth })
-ofListing depth (no e) = ifEq (number_of e) 6 (no TooLong) (no e)
+abbrev pub of_listing : ℕ → Answer (List ℕ) → Answer Measure
+of_listing depth (got t) = got (record { length = length t; depth = depth })
+of_listing depth (no e) = if_eq (number_of e) 6 (no TooLong) (no e)
 
 -- "Work out the length in bytes and the greatest depth of a listing without writing it"; 14 is "met at the line that passes it, after its own reading", as 6
 -- is in a buffer of so many bytes
 unfoldable pub measured : View → Answer Measure
-measured v = ofListing (deepest v levels rootId) (listing v most)
+measured v = of_listing (deepest v levels root_id) (listing v most)
 
 -- of the bytes of a container, and of an image
-unfoldable pub measureOfPart : List ℕ → Which → Answer Measure
-measureOfPart part w = viewOfPart part w >>= measured
+unfoldable pub measure_of_part : List ℕ → Which → Answer Measure
+measure_of_part part w = view_of_part part w >>= measured
 
-unfoldable pub measureOf : List ℕ → Which → Answer Measure
-measureOf image w = onPart (λ p. measureOfPart p w) image
+unfoldable pub measure_of : List ℕ → Which → Answer Measure
+measure_of image w = on_part (λ p. measure_of_part p w) image
 
 -- ---- what it says
 
@@ -70,31 +70,31 @@ measureOf image w = onPart (λ p. measureOfPart p w) image
 pub record ListedFrom (n : ℕ) (image : List ℕ) (w : Which) : Type 0 where
   pub text : List ℕ
   pub long : length text ≡ n
-  pub enough : (room : ℕ) → n ≤ room → listingOf image w room ≡ got text
-  pub short : (room : ℕ) → room < n → listingOf image w room ≡ no BufferTooShort
+  pub enough : (room : ℕ) → n ≤ room → listing_of image w room ≡ got text
+  pub short : (room : ℕ) → room < n → listing_of image w room ≡ no BufferTooShort
 
 -- the one tree that a volume shows, and its depth
 pub record Deep (v : View) (depth : ℕ) : Type 0 where
   pub tree : Tree
-  pub shows : Shows v rootId tree
-  pub only : (t : Tree) → Shows v rootId t → t ≡ tree
+  pub shows : Shows v root_id tree
+  pub only : (t : Tree) → Shows v root_id t → t ≡ tree
   pub greatest : depth ≡ depth_of tree
   pub no_deeper : depth ≤ 64
 
 pub record Measures : Type 0 where
   -- 1. "A buffer of that length or more then gets the listing; a shorter one gets 6"
-  pub measured-lists : (image : List ℕ) (w : Which) (m : Measure) → measureOf image w ≡ got m → ListedFrom m.length image w
+  pub measured_lists : (image : List ℕ) (w : Which) (m : Measure) → measure_of image w ≡ got m → ListedFrom m.length image w
   -- 2. "Where the measurement is refused with any number but 14, a listing of the same volume is refused with that number or 6"
-  pub measured-refused : (image : List ℕ) (w : Which) (e : Refusal) → measureOf image w ≡ no e → (e ≡ TooLong → ⊥)
-      → (room : ℕ) → (listingOf image w room ≡ no e) ⊎ (listingOf image w room ≡ no BufferTooShort)
+  pub measured_refused : (image : List ℕ) (w : Which) (e : Refusal) → measure_of image w ≡ no e → (e ≡ TooLong → ⊥)
+      → (room : ℕ) → (listing_of image w room ≡ no e) ⊎ (listing_of image w room ≡ no BufferTooShort)
   -- 3. what a listing says of the measurement
-  pub listed-measured : (image : List ℕ) (w : Which) (room : ℕ) (t : List ℕ) → listingOf image w room ≡ got t
-      → length t ≤ most → (m : Measure) × ((measureOf image w ≡ got m) × (m.length ≡ length t))
-  pub listed-long : (image : List ℕ) (w : Which) (room : ℕ) (t : List ℕ) → listingOf image w room ≡ got t → most < length t → measureOf image w ≡ no TooLong
+  pub listed_measured : (image : List ℕ) (w : Which) (room : ℕ) (t : List ℕ) → listing_of image w room ≡ got t
+      → length t ≤ most → (m : Measure) × ((measure_of image w ≡ got m) × (m.length ≡ length t))
+  pub listed_long : (image : List ℕ) (w : Which) (room : ℕ) (t : List ℕ) → listing_of image w room ≡ got t → most < length t → measure_of image w ≡ no TooLong
   -- 4. "14 when the length passes 4,294,967,295, met at the line that passes it, after its own reading"
-  pub measured-long : (image : List ℕ) (w : Which) (v : View) → viewAt image w ≡ got v → most < length (trace v).text
-      → (measureOf image w ≡ no TooLong) × ((room : ℕ) → room ≤ most → listingOf image w room ≡ no BufferTooShort)
-  pub measured-fault : (image : List ℕ) (w : Which) (v : View) (e : Refusal) → viewAt image w ≡ got v → length (trace v).text ≤ most → (trace v).ended ≡ stop e
-      → (number_of e ≡ 6 → ⊥) → measureOf image w ≡ no e
+  pub measured_long : (image : List ℕ) (w : Which) (v : View) → view_at image w ≡ got v → most < length (trace v).text
+      → (measure_of image w ≡ no TooLong) × ((room : ℕ) → room ≤ most → listing_of image w room ≡ no BufferTooShort)
+  pub measured_fault : (image : List ℕ) (w : Which) (v : View) (e : Refusal) → view_at image w ≡ got v → length (trace v).text ≤ most → (trace v).ended ≡ stop e
+      → (number_of e ≡ 6 → ⊥) → measure_of image w ≡ no e
   -- 5. "the greatest depth of a listing"
-  pub measured-depth : (image : List ℕ) (w : Which) (m : Measure) → measureOf image w ≡ got m → (v : View) × ((viewAt image w ≡ got v) × Deep v m.depth)
+  pub measured_depth : (image : List ℕ) (w : Which) (m : Measure) → measure_of image w ≡ got m → (v : View) × ((view_at image w ≡ got v) × Deep v m.depth)

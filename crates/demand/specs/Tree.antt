@@ -3,10 +3,10 @@
 use Rattle.std.specs.Prelude.{ℕ, suc, max, List, [], ◌∷◌, ◌++◌, length}
 use Rattle.volume.specs.declared.rule.NameRule.{NameRule}
 use Rattle.lines.specs.Shown.{InodeShown, EntryShown, AttributeShown, Contents, packed, plain}
-use Rattle.lines.specs.Lines.{volumeLine, nodeLine, attributeLine, contentsLine, entryLine, close}
-use Rattle.totals.specs.Totals.{counts, noTotals, plus, totalsOf}
+use Rattle.lines.specs.Lines.{volume_line, node_line, attribute_line, contents_line, entry_line, close}
+use Rattle.totals.specs.Totals.{counts, no_totals, plus, totals_of}
 use Rattle.totals.specs.declared.Totals.{Totals}
-use Rattle.demand.specs.Listing.{footLines}
+use Rattle.demand.specs.Listing.{foot_lines}
 
 mutual
   pub data Tree : Type 0 where
@@ -17,46 +17,46 @@ mutual
     entry : EntryShown → Tree → Entries → Entries
 
 -- the attributes, and the contents
-abbrev pub ofAttributes : List (AttributeShown (List ℕ)) → Contents → List ℕ → List ℕ
-ofAttributes [] c x = contentsLine c x
-ofAttributes (a ∷ l) c x = attributeLine a (ofAttributes l c x)
+abbrev pub of_attributes : List (AttributeShown (List ℕ)) → Contents → List ℕ → List ℕ
+of_attributes [] c x = contents_line c x
+of_attributes (a ∷ l) c x = attribute_line a (of_attributes l c x)
 
 -- a node; its entries, and the end of the node
 abbrev mutual
-  pub ofTree : Tree → List ℕ → List ℕ
-  ofTree (node f l c es) x = nodeLine f (ofAttributes l c (ofEntries es x))
+  pub of_tree : Tree → List ℕ → List ℕ
+  of_tree (node f l c es) x = node_line f (of_attributes l c (of_entries es x))
 
-  pub ofEntries : Entries → List ℕ → List ℕ
-  ofEntries none x = close x
-  ofEntries (entry e t es) x = entryLine e (ofTree t (close (ofEntries es x)))
+  pub of_entries : Entries → List ℕ → List ℕ
+  of_entries none x = close x
+  of_entries (entry e t es) x = entry_line e (of_tree t (close (of_entries es x)))
 
 -- "Each equals the count over the lines above it"
 abbrev pub foot : List ℕ → List ℕ
-foot above = above ++ footLines (totalsOf above)
+foot above = above ++ foot_lines (totals_of above)
 
 -- "`(volume C N LABEL` .. Then the root's node form, then `)`"
-abbrev pub ofVolume : NameRule → List ℕ → Tree → List ℕ
-ofVolume r l t = foot (volumeLine r.case_insensitive r.normalization_insensitive l (ofTree t []))
+abbrev pub of_volume : NameRule → List ℕ → Tree → List ℕ
+of_volume r l t = foot (volume_line r.case_insensitive r.normalization_insensitive l (of_tree t []))
 
 -- "bytes shown in data forms", "a packed one with 0 bytes"
-abbrev pub shownBytes : Contents → ℕ
-shownBytes packed = 0
-shownBytes (plain d) = length d
+abbrev pub shown_bytes : Contents → ℕ
+shown_bytes packed = 0
+shown_bytes (plain d) = length d
 
 -- "node forms printed, bytes shown in data forms, and attr forms", "a hard-linked file counting as often as it is printed"
 abbrev mutual
-  pub treeTotals : Tree → Totals
-  treeTotals (node f l c es) = plus (counts 1 (shownBytes c) (length l)) (entriesTotals es)
+  pub tree_totals : Tree → Totals
+  tree_totals (node f l c es) = plus (counts 1 (shown_bytes c) (length l)) (entries_totals es)
 
-  pub entriesTotals : Entries → Totals
-  entriesTotals none = noTotals
-  entriesTotals (entry e t es) = plus (treeTotals t) (entriesTotals es)
+  pub entries_totals : Entries → Totals
+  entries_totals none = no_totals
+  entries_totals (entry e t es) = plus (tree_totals t) (entries_totals es)
 
 -- document 02, request 09, "the greatest depth of a listing": of the nodes below the root, which is at depth 0
 abbrev mutual
   pub depth_of : Tree → ℕ
-  depth_of (node f l c es) = depthIn es
+  depth_of (node f l c es) = depth_in es
 
-  pub depthIn : Entries → ℕ
-  depthIn none = 0
-  depthIn (entry e t es) = max (suc (depth_of t)) (depthIn es)
+  pub depth_in : Entries → ℕ
+  depth_in none = 0
+  depth_in (entry e t es) = max (suc (depth_of t)) (depth_in es)

@@ -4,47 +4,47 @@
 use Rattle.std.specs.Prelude.{ℕ, ◌%◌, ◌≤◌, ◌<◌, ◌≡◌, List, length}
 use Rattle.error.specs.Answer.{no}
 use Rattle.error.specs.declared.Refusal.TheVariants.{NotFound}
-use Rattle.gpt.specs.Part.{onPart}
-use Rattle.checkpoints.specs.Numbers.{numbersAt}
+use Rattle.gpt.specs.Part.{on_part}
+use Rattle.checkpoints.specs.Numbers.{numbers_at}
 use Rattle.volume.specs.Open.{latest, numbered}
-use Rattle.calls.specs.Filled.{filledBy}
-use Rattle.demand.specs.Demand.{listingOf}
+use Rattle.calls.specs.Filled.{filled_by}
+use Rattle.demand.specs.Demand.{listing_of}
 use Rattle.listing.specs.Listed.{listed_of}
-use Rattle.container_line.specs.Container.{openText}
-use Rattle.element_lines.specs.Elements.{lookupText, entryText, extentText}
-use Rattle.attribute_lines.specs.Attributes.{attributeText}
-use Rattle.entry_lines.specs.Entries.{entriesText}
-use Rattle.reads.specs.Reads.{readText, linkText, xattrBytes}
-use Rattle.measure.specs.Line.{measureText}
-use Rattle.marks.specs.Texts.{markText, markedText}
-use Rattle.replaced_line.specs.Line.{replacedText}
-use Rattle.xid_list.specs.Listed.{xidsBy}
-use Rattle.part_line.specs.Line.{partText}
-use Rattle.wrong_word.specs.Mends.{mendsOf, mendsIn}
-use Rattle.desks.specs.Requests.{asked, whichBy, filledFor, nodesOf}
+use Rattle.container_line.specs.Container.{open_text}
+use Rattle.element_lines.specs.Elements.{lookup_text, entry_text, extent_text}
+use Rattle.attribute_lines.specs.Attributes.{attribute_text}
+use Rattle.entry_lines.specs.Entries.{entries_text}
+use Rattle.reads.specs.Reads.{read_text, link_text, xattr_bytes}
+use Rattle.measure.specs.Line.{measure_text}
+use Rattle.marks.specs.Texts.{mark_text, marked_text}
+use Rattle.replaced_line.specs.Line.{replaced_text}
+use Rattle.xid_list.specs.Listed.{xids_by}
+use Rattle.part_line.specs.Line.{part_text}
+use Rattle.wrong_word.specs.Mends.{mends_of, mends_in}
+use Rattle.desks.specs.Requests.{asked, which_by, filled_for, nodes_of}
 
 pub record Usual (image : List ℕ) (n xid v a b c : ℕ) (path out : List ℕ) : Type 0 where
   -- the checkpoint and the volume
-  pub at-latest : whichBy 0 xid v ≡ latest v
-  pub at-number : (n ≡ 0 → ⊥) → whichBy n xid v ≡ numbered xid v
-  pub opened : filledFor (asked 0 image n xid v a b c path (length out)) out ≡ filledBy (onPart (λ p. openText (whichBy n xid v).checkpoint p) image) out
-  pub looked-up : filledFor (asked 1 image n xid v a b c path (length out)) out ≡ filledBy (onPart (λ p. lookupText p (whichBy n xid v) path) image) out
-  pub read : filledFor (asked 2 image n xid v a b c path (length out)) out ≡ filledBy (onPart (λ p. readText p (whichBy n xid v) a b (length out)) image) out
-  pub entry : filledFor (asked 4 image n xid v a b c path (length out)) out ≡ filledBy (onPart (λ p. entryText p (whichBy n xid v) a b) image) out
-  pub attribute : filledFor (asked 5 image n xid v a b c path (length out)) out ≡ filledBy (onPart (λ p. attributeText p (whichBy n xid v) a b) image) out
-  pub link : filledFor (asked 6 image n xid v a b c path (length out)) out ≡ filledBy (onPart (λ p. linkText p (whichBy n xid v) a) image) out
-  pub extent : filledFor (asked 7 image n xid v a b c path (length out)) out ≡ filledBy (onPart (λ p. extentText p (whichBy n xid v) a b) image) out
-  pub attribute-bytes : filledFor (asked 8 image n xid v a b c path (length out)) out ≡ filledBy (onPart (λ p. xattrBytes p (whichBy n xid v) a b) image) out
-  pub entries : filledFor (asked 9 image n xid v a b c path (length out)) out ≡ filledBy (onPart (λ p. entriesText p (whichBy n xid v) a b (length out)) image) out
-  pub measured : filledFor (asked 10 image n xid v a b c path (length out)) out ≡ filledBy (onPart (λ p. measureText p (whichBy n xid v)) image) out
-  pub mark : filledFor (asked 11 image n xid v a b c path (length out)) out ≡ filledBy (onPart (λ p. markText p (whichBy n xid v) a (c % 256) b) image) out
-  pub marked : filledFor (asked 12 image n xid v a b c path (length out)) out ≡ filledBy (onPart (λ p. markedText (whichBy n xid v).checkpoint p path) image) out
-  pub replaced : filledFor (asked 13 image n xid v a b c path (length out)) out ≡ filledBy (onPart (λ p. replacedText p (whichBy n xid v) c a b) image) out
-  pub listed : filledFor (asked 3 image n xid v a b c path (length out)) out ≡ listed_of (listingOf image (whichBy n xid v) (length out)) out
-  pub checkpoints : filledFor (asked 14 image n xid v a b c path (length out)) out ≡ xidsBy (onPart numbersAt image) out
-  pub part : filledFor (asked 15 image n xid v a b c path (length out)) out ≡ filledBy (partText image) out
-  pub wrong-words : filledFor (asked 16 image n xid v a b c path (length out)) out ≡ mendsIn (mendsOf image) out
+  pub at_latest_lem : which_by 0 xid v ≡ latest v
+  pub at_number_lem : (n ≡ 0 → ⊥) → which_by n xid v ≡ numbered xid v
+  pub opened : filled_for (asked 0 image n xid v a b c path (length out)) out ≡ filled_by (on_part (λ p. open_text (which_by n xid v).checkpoint p) image) out
+  pub looked_up : filled_for (asked 1 image n xid v a b c path (length out)) out ≡ filled_by (on_part (λ p. lookup_text p (which_by n xid v) path) image) out
+  pub read : filled_for (asked 2 image n xid v a b c path (length out)) out ≡ filled_by (on_part (λ p. read_text p (which_by n xid v) a b (length out)) image) out
+  pub entry : filled_for (asked 4 image n xid v a b c path (length out)) out ≡ filled_by (on_part (λ p. entry_text p (which_by n xid v) a b) image) out
+  pub attribute : filled_for (asked 5 image n xid v a b c path (length out)) out ≡ filled_by (on_part (λ p. attribute_text p (which_by n xid v) a b) image) out
+  pub link : filled_for (asked 6 image n xid v a b c path (length out)) out ≡ filled_by (on_part (λ p. link_text p (which_by n xid v) a) image) out
+  pub extent : filled_for (asked 7 image n xid v a b c path (length out)) out ≡ filled_by (on_part (λ p. extent_text p (which_by n xid v) a b) image) out
+  pub attribute_bytes_lem : filled_for (asked 8 image n xid v a b c path (length out)) out ≡ filled_by (on_part (λ p. xattr_bytes p (which_by n xid v) a b) image) out
+  pub entries : filled_for (asked 9 image n xid v a b c path (length out)) out ≡ filled_by (on_part (λ p. entries_text p (which_by n xid v) a b (length out)) image) out
+  pub measured : filled_for (asked 10 image n xid v a b c path (length out)) out ≡ filled_by (on_part (λ p. measure_text p (which_by n xid v)) image) out
+  pub mark : filled_for (asked 11 image n xid v a b c path (length out)) out ≡ filled_by (on_part (λ p. mark_text p (which_by n xid v) a (c % 256) b) image) out
+  pub marked : filled_for (asked 12 image n xid v a b c path (length out)) out ≡ filled_by (on_part (λ p. marked_text (which_by n xid v).checkpoint p path) image) out
+  pub replaced : filled_for (asked 13 image n xid v a b c path (length out)) out ≡ filled_by (on_part (λ p. replaced_text p (which_by n xid v) c a b) image) out
+  pub listed : filled_for (asked 3 image n xid v a b c path (length out)) out ≡ listed_of (listing_of image (which_by n xid v) (length out)) out
+  pub checkpoints : filled_for (asked 14 image n xid v a b c path (length out)) out ≡ xids_by (on_part numbers_at image) out
+  pub part : filled_for (asked 15 image n xid v a b c path (length out)) out ≡ filled_by (part_text image) out
+  pub wrong_words : filled_for (asked 16 image n xid v a b c path (length out)) out ≡ mends_in (mends_of image) out
   -- a number of no call is 4, and leaves the buffer
-  pub no_call : (what : ℕ) → 16 < what → filledFor (asked what image n xid v a b c path (length out)) out ≡ record { answer = no NotFound; buffer = out }
+  pub no_call : (what : ℕ) → 16 < what → filled_for (asked what image n xid v a b c path (length out)) out ≡ record { answer = no NotFound; buffer = out }
   -- the list of checkpoints, the part, the wrong words and a number of no call go through no node
-  pub no-nodes : (what : ℕ) → 14 ≤ what → nodesOf (asked what image n xid v a b c path (length out)) ≡ 0
+  pub no_nodes : (what : ℕ) → 14 ≤ what → nodes_of (asked what image n xid v a b c path (length out)) ≡ 0

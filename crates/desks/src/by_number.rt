@@ -1,18 +1,18 @@
 // A call by its number, on an image.
 ghost use Rattle.std.specs.Prelude.{◌≡◌, ◌≤◌, ◌<◌, length};
 ghost use Rattle.error.specs.Answer.{no};
-ghost use Rattle.bytes.specs.Part.{part_of};
-ghost use Rattle.gpt.specs.Part.{partOfImage, onPart};
+ghost use Rattle.byte_fields.specs.Part.{part_of};
+ghost use Rattle.gpt.specs.Part.{part_of_image, on_part};
 ghost use Rattle.lookup.specs.Counted.{after, from};
-ghost use Rattle.checkpoints.specs.Numbers.{numbersAt};
-ghost use Rattle.calls.specs.Filled.{filledAt, calledBy};
-ghost use Rattle.xid_list.specs.Listed.{xidsBy};
-ghost use Rattle.desks.specs.Requests.{asked, whichBy, textBy, filledFor, resultFor, bufferFor, nodesOf};
-ghost use Rattle.desks.specs.Inner.{leftBy, restFor, leftFor};
+ghost use Rattle.checkpoints.specs.Numbers.{numbers_at};
+ghost use Rattle.calls.specs.Filled.{filled_at, called_by};
+ghost use Rattle.xid_list.specs.Listed.{xids_by};
+ghost use Rattle.desks.specs.Requests.{asked, which_by, text_by, filled_for, result_for, buffer_for, nodes_of};
+ghost use Rattle.desks.specs.Inner.{left_by, rest_for, left_for};
 
 use crate::counts::Called;
 use crate::rows::call_in;
-use bytes::{Sliced, part};
+use byte_fields::{Sliced, part};
 use calls::Progress;
 use checkpoints::Choice;
 use error::Refusal;
@@ -27,7 +27,7 @@ use xid_list::list_xids;
 
 // The latest checkpoint, or that of a number.
 fn which_of(numbered: u64, xid: u64, volume: u64) -> Which
-    ensures { result ≡ whichBy numbered xid volume }
+    ensures { result ≡ which_by numbered xid volume }
 {
     if numbered == 0 {
         return Which {
@@ -43,7 +43,7 @@ fn which_of(numbered: u64, xid: u64, volume: u64) -> Which
 
 // Where no container's part is found, nothing is gone through.
 fn no_part(what: u64, e: Refusal, out: &mut [u8]) -> Progress
-    ensures { calledBy result out.new ≡ leftBy what (after 0 (no e)) out.old }
+    ensures { called_by result out.new ≡ left_by what (after 0 (no e)) out.old }
 {
     if what == 3 {
         return Progress {
@@ -68,7 +68,7 @@ fn call_on_part(
     out: &mut [u8],
 ) -> Progress
     requires { what < 14 }
-    ensures { calledBy result out.new ≡ leftBy what (from 0 (partOfImage image.now) λ s. textBy what which a b c path.now (length out.old) (part_of image.now s)) out.old }
+    ensures { called_by result out.new ≡ left_by what (from 0 (part_of_image image.now) λ s. text_by what which a b c path.now (length out.old) (part_of image.now s)) out.old }
 {
     match part_of_image(image) {
         Sliced::Got(s) => call_in(what, part(image, s), which, a, b, c, path, out),
@@ -77,7 +77,7 @@ fn call_on_part(
 }
 
 fn checkpoints_of(image: &[u8], out: &mut [u8]) -> Position
-    ensures { filledAt result out.new ≡ xidsBy (onPart numbersAt image.now) out.old }
+    ensures { filled_at result out.new ≡ xids_by (on_part numbers_at image.now) out.old }
 {
     match part_of_image(image) {
         Sliced::Got(s) => list_xids(part(image, s), out),
@@ -87,7 +87,7 @@ fn checkpoints_of(image: &[u8], out: &mut [u8]) -> Position
 
 // From 14 on: these go through no node.
 fn other_call(what: u64, image: &[u8], out: &mut [u8]) -> Position
-    ensures { filledAt result out.new ≡ restFor what image.now out.old }
+    ensures { filled_at result out.new ≡ rest_for what image.now out.old }
 {
     if what == 14 {
         return checkpoints_of(image, out);
@@ -113,7 +113,7 @@ fn progress_of(
     path: &[u8],
     out: &mut [u8],
 ) -> Progress
-    ensures { calledBy result out.new ≡ leftFor (asked what image.now numbered xid volume a b c path.now (length out.old)) out.old }
+    ensures { called_by result out.new ≡ left_for (asked what image.now numbered xid volume a b c path.now (length out.old)) out.old }
 {
     if what < 14 {
         let which = which_of(numbered, xid, volume);
@@ -137,9 +137,9 @@ pub fn call(
     path: &[u8],
     out: &mut [u8],
 ) -> Called
-    ensures { (result.result ≡ resultFor (asked what image.now numbered xid volume a b c path.now (length out.old)) out.old)
-        × (result.nodes ≡ nodesOf (asked what image.now numbered xid volume a b c path.now (length out.old)))
-        × (out.new ≡ bufferFor (asked what image.now numbered xid volume a b c path.now (length out.old)) out.old) }
+    ensures { (result.result ≡ result_for (asked what image.now numbered xid volume a b c path.now (length out.old)) out.old)
+        × (result.nodes ≡ nodes_of (asked what image.now numbered xid volume a b c path.now (length out.old)))
+        × (out.new ≡ buffer_for (asked what image.now numbered xid volume a b c path.now (length out.old)) out.old) }
 {
     let p = progress_of(what, image, numbered, xid, volume, a, b, c, path, out);
     Called {

@@ -1,8 +1,8 @@
 // A call on the bytes of a container, by its number.
 ghost use Rattle.std.specs.Prelude.{◌≡◌, ◌≤◌, ◌<◌, length};
-ghost use Rattle.calls.specs.Filled.{calledBy};
-ghost use Rattle.desks.specs.Requests.{textBy};
-ghost use Rattle.desks.specs.Inner.{leftBy};
+ghost use Rattle.calls.specs.Filled.{called_by};
+ghost use Rattle.desks.specs.Requests.{text_by};
+ghost use Rattle.desks.specs.Inner.{left_by};
 
 use attribute_lines::attribute_text;
 use calls::Progress;
@@ -28,7 +28,7 @@ fn lower_call(
     out: &mut [u8],
 ) -> Progress
     requires { what < 7 }
-    ensures { calledBy result out.new ≡ leftBy what (textBy what which a b c path.now (length out.old) image.now) out.old }
+    ensures { called_by result out.new ≡ left_by what (text_by what which a b c path.now (length out.old) image.now) out.old }
 {
     if what == 0 {
         let checkpoint = which.checkpoint;
@@ -64,7 +64,7 @@ fn upper_call(
     out: &mut [u8],
 ) -> Progress
     requires { (7 ≤ what) × (what < 14) }
-    ensures { calledBy result out.new ≡ leftBy what (textBy what which a b c path.now (length out.old) image.now) out.old }
+    ensures { called_by result out.new ≡ left_by what (text_by what which a b c path.now (length out.old) image.now) out.old }
 {
     if what == 7 {
         return extent_text(image, which, a, b, out);
@@ -99,7 +99,7 @@ pub fn call_in(
     out: &mut [u8],
 ) -> Progress
     requires { what < 14 }
-    ensures { calledBy result out.new ≡ leftBy what (textBy what which a b c path.now (length out.old) image.now) out.old }
+    ensures { called_by result out.new ≡ left_by what (text_by what which a b c path.now (length out.old) image.now) out.old }
 {
     if what < 7 {
         return lower_call(what, image, which, a, b, c, path, out);

@@ -9,53 +9,53 @@ use Rattle.volume.specs.declared.Which.{Which}
 use Rattle.records.specs.declared.directory.Entry.{Entry}
 use Rattle.records.specs.declared.extent.Extent.{Extent}
 use Rattle.inode_record.specs.declared.inode.Inode.{Inode}
-use Rattle.lists.specs.Lists.{placed, entriesOf, fileExtents, inodeOf}
-use Rattle.paths.specs.Lookup.{lookupPath}
-use Rattle.lines.specs.Shown.{inodeShown, entryShown}
-use Rattle.lines.specs.Lines.{nodeLine, entryLine, extentLine}
-use Rattle.calls.specs.OnVolume.{onVolume}
+use Rattle.lists.specs.Lists.{placed, entries_of, file_extents, inode_of}
+use Rattle.paths.specs.Lookup.{lookup_path}
+use Rattle.lines.specs.Shown.{inode_shown, entry_shown}
+use Rattle.lines.specs.Lines.{node_line, entry_line, extent_line}
+use Rattle.calls.specs.OnVolume.{on_volume}
 
-abbrev pub entryShow : List ℕ → Volume → Option Entry → List ℕ
-entryShow image v none = []
-entryShow image v (some e) = entryLine (entryShown v.reader image e) []
+abbrev pub entry_show : List ℕ → Volume → Option Entry → List ℕ
+entry_show image v none = []
+entry_show image v (some e) = entry_line (entry_shown v.reader image e) []
 
-unfoldable pub entryOn : List ℕ → Volume → ℕ → ℕ → ℕ → Counted (List ℕ)
-entryOn image v id place s = onto (placed place (entriesOf image v id s)) λ o t. after t (got (entryShow image v o))
+unfoldable pub entry_on : List ℕ → Volume → ℕ → ℕ → ℕ → Counted (List ℕ)
+entry_on image v id place s = onto (placed place (entries_of image v id s)) λ o t. after t (got (entry_show image v o))
 
 -- the line of an entry by its place, with the nodes gone through: document 02, request 06
-unfoldable pub entryCounted : List ℕ → Which → ℕ → ℕ → Counted (List ℕ)
-entryCounted image w id place = onVolume (λ v s. entryOn image v id place s) image w
+unfoldable pub entry_counted : List ℕ → Which → ℕ → ℕ → Counted (List ℕ)
+entry_counted image w id place = on_volume (λ v s. entry_on image v id place s) image w
 
 -- what `apfs_entry` answers
-abbrev pub entryText : List ℕ → Which → ℕ → ℕ → Answer (List ℕ)
-entryText image w id place = (entryCounted image w id place).answer
+abbrev pub entry_text : List ℕ → Which → ℕ → ℕ → Answer (List ℕ)
+entry_text image w id place = (entry_counted image w id place).answer
 
-unfoldable pub lookupOn : List ℕ → Volume → List ℕ → ℕ → Counted (List ℕ)
-lookupOn image v path s = onto (lookupPath image v path s) λ i t. after t (got (nodeLine (inodeShown v.reader image i) []))
+unfoldable pub lookup_on : List ℕ → Volume → List ℕ → ℕ → Counted (List ℕ)
+lookup_on image v path s = onto (lookup_path image v path s) λ i t. after t (got (node_line (inode_shown v.reader image i) []))
 
 -- the line of an inode by its path, with the nodes gone through: document 02, request 06
-unfoldable pub lookupCounted : List ℕ → Which → List ℕ → Counted (List ℕ)
-lookupCounted image w path = onVolume (λ v s. lookupOn image v path s) image w
+unfoldable pub lookup_counted : List ℕ → Which → List ℕ → Counted (List ℕ)
+lookup_counted image w path = on_volume (λ v s. lookup_on image v path s) image w
 
 -- what `apfs_lookup` answers
-abbrev pub lookupText : List ℕ → Which → List ℕ → Answer (List ℕ)
-lookupText image w path = (lookupCounted image w path).answer
+abbrev pub lookup_text : List ℕ → Which → List ℕ → Answer (List ℕ)
+lookup_text image w path = (lookup_counted image w path).answer
 
-abbrev pub extentShow : Option Extent → List ℕ
-extentShow none = []
-extentShow (some e) = extentLine e []
+abbrev pub extent_show : Option Extent → List ℕ
+extent_show none = []
+extent_show (some e) = extent_line e []
 
 -- of an inode that was read (fs.rs, `file_extents`)
-unfoldable pub extentOf : List ℕ → Volume → Inode → ℕ → ℕ → Counted (List ℕ)
-extentOf image v i place s = onto (fileExtents image v i place s) λ o t. after t (got (extentShow o))
+unfoldable pub extent_of : List ℕ → Volume → Inode → ℕ → ℕ → Counted (List ℕ)
+extent_of image v i place s = onto (file_extents image v i place s) λ o t. after t (got (extent_show o))
 
-unfoldable pub extentOn : List ℕ → Volume → ℕ → ℕ → ℕ → Counted (List ℕ)
-extentOn image v id place s = onto (inodeOf image v id s) λ i t. extentOf image v i place t
+unfoldable pub extent_on : List ℕ → Volume → ℕ → ℕ → ℕ → Counted (List ℕ)
+extent_on image v id place s = onto (inode_of image v id s) λ i t. extent_of image v i place t
 
 -- the line of an extent by its place, with the nodes gone through: document 02, request 06
-unfoldable pub extentCounted : List ℕ → Which → ℕ → ℕ → Counted (List ℕ)
-extentCounted image w id place = onVolume (λ v s. extentOn image v id place s) image w
+unfoldable pub extent_counted : List ℕ → Which → ℕ → ℕ → Counted (List ℕ)
+extent_counted image w id place = on_volume (λ v s. extent_on image v id place s) image w
 
 -- what `apfs_extent` answers
-abbrev pub extentText : List ℕ → Which → ℕ → ℕ → Answer (List ℕ)
-extentText image w id place = (extentCounted image w id place).answer
+abbrev pub extent_text : List ℕ → Which → ℕ → ℕ → Answer (List ℕ)
+extent_text image w id place = (extent_counted image w id place).answer

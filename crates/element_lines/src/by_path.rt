@@ -1,9 +1,9 @@
 // The line of the inode that a path leads to.
 ghost use Rattle.std.specs.Prelude.{◌≡◌, []};
-ghost use Rattle.lines.specs.Shown.{inodeShown};
-ghost use Rattle.lines.specs.Lines.{nodeLine};
-ghost use Rattle.calls.specs.Filled.{filledAt, filled, calledBy, answered};
-ghost use Rattle.element_lines.specs.Elements.{lookupOn, lookupCounted};
+ghost use Rattle.lines.specs.Shown.{inode_shown};
+ghost use Rattle.lines.specs.Lines.{node_line};
+ghost use Rattle.calls.specs.Filled.{filled_at, filled, called_by, answered};
+ghost use Rattle.element_lines.specs.Elements.{lookup_on, lookup_counted};
 
 use calls::Progress;
 use inode_record::{Inode, InodeRead};
@@ -15,7 +15,7 @@ use volume::{Volume, VolumeOpening, Which, open_at};
 
 // Measured first: a buffer that is too short is left as it was.
 fn show_inode(image: &[u8], reader: Reader, i: Inode, out: &mut [u8]) -> Position
-    ensures { filledAt result out.new ≡ filled (nodeLine (inodeShown reader image.now i) []) out.old }
+    ensures { filled_at result out.new ≡ filled (node_line (inode_shown reader image.now i) []) out.old }
 {
     let room = out.len();
     match put_node_line(&mut out[..0], room, Position::At(0), image, reader, i) {
@@ -25,7 +25,7 @@ fn show_inode(image: &[u8], reader: Reader, i: Inode, out: &mut [u8]) -> Positio
 }
 
 fn lookup_on(image: &[u8], v: Volume, path: &[u8], nodes: u64, out: &mut [u8]) -> Progress
-    ensures { calledBy result out.new ≡ answered (lookupOn image.now v path.now nodes) out.old }
+    ensures { called_by result out.new ≡ answered (lookup_on image.now v path.now nodes) out.old }
 {
     let found = lookup_path(image, v, path, nodes);
     let reader = v.reader;
@@ -43,7 +43,7 @@ fn lookup_on(image: &[u8], v: Volume, path: &[u8], nodes: u64, out: &mut [u8]) -
 }
 
 pub fn lookup_text(image: &[u8], which: Which, path: &[u8], out: &mut [u8]) -> Progress
-    ensures { calledBy result out.new ≡ answered (lookupCounted image.now which path.now) out.old }
+    ensures { called_by result out.new ≡ answered (lookup_counted image.now which path.now) out.old }
 {
     let opened = open_at(image, which);
     let volume = opened.volume;

@@ -1,9 +1,9 @@
 // The line of a directory entry, by place.
 ghost use Rattle.std.specs.Prelude.{◌≡◌, []};
-ghost use Rattle.lines.specs.Shown.{entryShown};
-ghost use Rattle.lines.specs.Lines.{entryLine};
-ghost use Rattle.calls.specs.Filled.{filledAt, filled, calledBy, answered};
-ghost use Rattle.element_lines.specs.Elements.{entryOn, entryCounted};
+ghost use Rattle.lines.specs.Shown.{entry_shown};
+ghost use Rattle.lines.specs.Lines.{entry_line};
+ghost use Rattle.calls.specs.Filled.{filled_at, filled, called_by, answered};
+ghost use Rattle.element_lines.specs.Elements.{entry_on, entry_counted};
 
 use calls::Progress;
 use lines::put_entry_line;
@@ -15,7 +15,7 @@ use volume::{Volume, VolumeOpening, Which, open_at};
 
 // Measured first: a buffer that is too short is left as it was.
 fn show_entry(image: &[u8], reader: Reader, e: Entry, out: &mut [u8]) -> Position
-    ensures { filledAt result out.new ≡ filled (entryLine (entryShown reader image.now e) []) out.old }
+    ensures { filled_at result out.new ≡ filled (entry_line (entry_shown reader image.now e) []) out.old }
 {
     let room = out.len();
     match put_entry_line(&mut out[..0], room, Position::At(0), image, reader, e) {
@@ -25,7 +25,7 @@ fn show_entry(image: &[u8], reader: Reader, e: Entry, out: &mut [u8]) -> Positio
 }
 
 fn entry_on(image: &[u8], v: Volume, id: u64, place: u64, nodes: u64, out: &mut [u8]) -> Progress
-    ensures { calledBy result out.new ≡ answered (entryOn image.now v id place nodes) out.old }
+    ensures { called_by result out.new ≡ answered (entry_on image.now v id place nodes) out.old }
 {
     let found = entry_at(image, v, id, place, nodes);
     let reader = v.reader;
@@ -47,7 +47,7 @@ fn entry_on(image: &[u8], v: Volume, id: u64, place: u64, nodes: u64, out: &mut 
 }
 
 pub fn entry_text(image: &[u8], which: Which, id: u64, place: u64, out: &mut [u8]) -> Progress
-    ensures { calledBy result out.new ≡ answered (entryCounted image.now which id place) out.old }
+    ensures { called_by result out.new ≡ answered (entry_counted image.now which id place) out.old }
 {
     let opened = open_at(image, which);
     let volume = opened.volume;

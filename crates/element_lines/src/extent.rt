@@ -1,8 +1,8 @@
 // The line of a file's extent, by place.
 ghost use Rattle.std.specs.Prelude.{◌≡◌, []};
-ghost use Rattle.lines.specs.Lines.{extentLine};
-ghost use Rattle.calls.specs.Filled.{filledAt, filled, calledBy, answered};
-ghost use Rattle.element_lines.specs.Elements.{extentOf, extentOn, extentCounted};
+ghost use Rattle.lines.specs.Lines.{extent_line};
+ghost use Rattle.calls.specs.Filled.{filled_at, filled, called_by, answered};
+ghost use Rattle.element_lines.specs.Elements.{extent_of, extent_on, extent_counted};
 
 use calls::Progress;
 use inode_record::{Inode, InodeRead};
@@ -14,7 +14,7 @@ use volume::{Volume, VolumeOpening, Which, open_at};
 
 // Measured first: a buffer that is too short is left as it was.
 fn show_extent(e: Extent, out: &mut [u8]) -> Position
-    ensures { filledAt result out.new ≡ filled (extentLine e []) out.old }
+    ensures { filled_at result out.new ≡ filled (extent_line e []) out.old }
 {
     let room = out.len();
     match put_extent_line(&mut out[..0], room, Position::At(0), e) {
@@ -24,7 +24,7 @@ fn show_extent(e: Extent, out: &mut [u8]) -> Position
 }
 
 fn extent_of(image: &[u8], v: Volume, i: Inode, place: u64, nodes: u64, out: &mut [u8]) -> Progress
-    ensures { calledBy result out.new ≡ answered (extentOf image.now v i place nodes) out.old }
+    ensures { called_by result out.new ≡ answered (extent_of image.now v i place nodes) out.old }
 {
     let found = file_extents(image, v, i, place, nodes);
     let extent = found.extent;
@@ -45,7 +45,7 @@ fn extent_of(image: &[u8], v: Volume, i: Inode, place: u64, nodes: u64, out: &mu
 }
 
 fn extent_on(image: &[u8], v: Volume, id: u64, place: u64, nodes: u64, out: &mut [u8]) -> Progress
-    ensures { calledBy result out.new ≡ answered (extentOn image.now v id place nodes) out.old }
+    ensures { called_by result out.new ≡ answered (extent_on image.now v id place nodes) out.old }
 {
     let found = inode(image, v, id, nodes);
     let read = found.inode;
@@ -59,7 +59,7 @@ fn extent_on(image: &[u8], v: Volume, id: u64, place: u64, nodes: u64, out: &mut
 }
 
 pub fn extent_text(image: &[u8], which: Which, id: u64, place: u64, out: &mut [u8]) -> Progress
-    ensures { calledBy result out.new ≡ answered (extentCounted image.now which id place) out.old }
+    ensures { called_by result out.new ≡ answered (extent_counted image.now which id place) out.old }
 {
     let opened = open_at(image, which);
     let volume = opened.volume;

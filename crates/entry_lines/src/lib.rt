@@ -2,13 +2,13 @@
 ghost use Rattle.std.specs.Prelude.{◌≡◌, length, drop, ◌≤◌};
 ghost use Rattle.text.specs.Output.{at, puts};
 ghost use Rattle.cursor.specs.Left.{run_at};
-ghost use Rattle.volume.specs.Rule.{hashedKeys};
+ghost use Rattle.volume.specs.Rule.{hashed_keys};
 ghost use Rattle.records.specs.Directory.{entry_at};
-ghost use Rattle.lists.specs.Lists.{searchOf};
+ghost use Rattle.lists.specs.Lists.{search_of};
 ghost use Rattle.lists.specs.Inner.{readable};
-ghost use Rattle.calls.specs.Filled.{filledAt, calledBy, answered};
-ghost use Rattle.entry_lines.specs.Entries.{lines_of, fitting, entriesOn, entriesCounted};
-ghost use Rattle.entry_lines.specs.Inner.{line_at, filledFrom, entriesFrom};
+ghost use Rattle.calls.specs.Filled.{filled_at, called_by, answered};
+ghost use Rattle.entry_lines.specs.Entries.{lines_of, fitting, entries_on, entries_counted};
+ghost use Rattle.entry_lines.specs.Inner.{line_at, filled_from, entries_from};
 
 use calls::Progress;
 use cursor::{Step, first, next};
@@ -31,7 +31,7 @@ fn put_next(
     e: Entry,
 ) -> Position
     requires { n ≤ room }
-    ensures { filledAt result out.new ≡ filledFrom room n (line_at reader image.now left e) out.old }
+    ensures { filled_at result out.new ≡ filled_from room n (line_at reader image.now left e) out.old }
 {
     if 0 < left {
         return Position::At(n);
@@ -57,7 +57,7 @@ fn put_entries(
     place: u64,
     start: Step,
 ) -> usize
-    ensures { at out.new result ≡ puts room (fitting room (lines_of v.reader image.now (drop place (readable (entry_at (hashedKeys v) v.reader image.now) (run_at image.now (searchOf v id 9) start start.from))))) (at out.old 0) }
+    ensures { at out.new result ≡ puts room (fitting room (lines_of v.reader image.now (drop place (readable (entry_at (hashed_keys v) v.reader image.now) (run_at image.now (search_of v id 9) start start.from))))) (at out.old 0) }
 {
     let q = search(v, id, 9);
     let keys = q.keys;
@@ -98,7 +98,7 @@ fn entries_from(
     start: Step,
     out: &mut [u8],
 ) -> Position
-    ensures { filledAt result out.new ≡ entriesFrom v.reader image.now e (drop place (readable (entry_at (hashedKeys v) v.reader image.now) (run_at image.now (searchOf v id 9) start start.from))) out.old }
+    ensures { filled_at result out.new ≡ entries_from v.reader image.now e (drop place (readable (entry_at (hashed_keys v) v.reader image.now) (run_at image.now (search_of v id 9) start start.from))) out.old }
 {
     let room = out.len();
     let reader = v.reader;
@@ -110,7 +110,7 @@ fn entries_from(
 
 // The whole list is read for its faults, then its lines are written in a second walk.
 fn entries_on(image: &[u8], v: Volume, id: u64, place: u64, nodes: u64, out: &mut [u8]) -> Progress
-    ensures { calledBy result out.new ≡ answered (entriesOn image.now v id place (length out.old) nodes) out.old }
+    ensures { called_by result out.new ≡ answered (entries_on image.now v id place (length out.old) nodes) out.old }
 {
     let start = first(image, search(v, id, 9), nodes);
     let found = entry_from(image, v, id, place, start);
@@ -132,7 +132,7 @@ fn entries_on(image: &[u8], v: Volume, id: u64, place: u64, nodes: u64, out: &mu
 }
 
 pub fn entries_text(image: &[u8], which: Which, id: u64, place: u64, out: &mut [u8]) -> Progress
-    ensures { calledBy result out.new ≡ answered (entriesCounted image.now which id place (length out.old)) out.old }
+    ensures { called_by result out.new ≡ answered (entries_counted image.now which id place (length out.old)) out.old }
 {
     let opened = open_at(image, which);
     let volume = opened.volume;

@@ -8,45 +8,45 @@ use native.Mathlib.Omega.{arith}
 use lib.ListN.{length}
 use Rattle.error.specs.Answer.{no}
 use Rattle.error.specs.declared.Refusal.TheVariants.{Io, Corrupt, Overflow}
-use Rattle.error.proofs.Laws.{at-most, above, same, other}
+use Rattle.error.proofs.Laws.{at_most_lem, above, same, other}
 use Rattle.extents.specs.Verdict.{fine, ◌>>◌}
-use Rattle.extents.specs.Extents.{Disk, end, top, blocks, seek, counted, lies, reach, allows, decide, countedIn}
-use Rattle.extents.proofs.Verdicts.{was-above, was-other, le-or-gt, passed, went}
+use Rattle.extents.specs.Extents.{Disk, end, top, blocks, seek, counted, lies, reach, allows, decide, counted_in}
+use Rattle.extents.proofs.Verdicts.{was_above, was_other, le_or_gt, passed, went}
 use Rattle.records.specs.declared.extent.Extent.{Extent}
 
 -- ---- blocks
 
 module _ (bs : ℕ) (pos : 0 < bs) where
-  pub blocks-hold : (n : ℕ) → n ≤ blocks bs n * bs
+  pub blocks_hold : (n : ℕ) → n ≤ blocks bs n * bs
   unfolding blocks
-  blocks-hold n = omega (arith, lt-div-mul-add {a = n + (bs - 1)} pos)
+  blocks_hold n = omega (arith, lt-div-mul-add {a = n + (bs - 1)} pos)
 
-  pub blocks-mono : (m n : ℕ) → m ≤ n → blocks bs m ≤ blocks bs n
+  pub blocks_mono : (m n : ℕ) → m ≤ n → blocks bs m ≤ blocks bs n
   unfolding blocks
-  blocks-mono m n h = (le-div_iff_mul-le pos).1 (omega (arith, div-mul-le_self (m + (bs - 1)) bs))
+  blocks_mono m n h = (le-div_iff_mul-le pos).1 (omega (arith, div-mul-le_self (m + (bs - 1)) bs))
 
-  pub block-below : (a n : ℕ) → a < n → a / bs < blocks bs n
-  block-below a n h = (div-lt_iff_lt-mul pos).1 (omega (arith, blocks-hold n))
+  pub block_below : (a n : ℕ) → a < n → a / bs < blocks bs n
+  block_below a n h = (div-lt_iff_lt-mul pos).1 (omega (arith, blocks_hold n))
 
 -- ---- one step of each recursion
 
 module _ (d : Disk) (off stop : ℕ) (e : Extent) (es : List Extent) where
-  pub decide-stop : stop ≤ e.logical → decide d off stop (e ∷ es) ≡ fine
+  pub decide_stop : stop ≤ e.logical → decide d off stop (e ∷ es) ≡ fine
   unfolding decide
-  decide-stop h = sym (at-most _ _ _ _ _ h refl)
+  decide_stop h = sym (at_most_lem _ _ _ _ _ h refl)
 
-  pub decide-goes : e.logical < stop → decide d off stop (e ∷ es) ≡ (allows d off stop e >> decide d off stop es)
+  pub decide_goes : e.logical < stop → decide d off stop (e ∷ es) ≡ (allows d off stop e >> decide d off stop es)
   unfolding decide
-  decide-goes h = sym (above _ _ _ _ _ h refl)
+  decide_goes h = sym (above _ _ _ _ _ h refl)
 
 module _ (off : ℕ) (best : List Extent) (e : Extent) (es : List Extent) where
-  pub seek-takes : e.logical ≤ off → seek off best (e ∷ es) ≡ seek off (e ∷ es) es
+  pub seek_takes : e.logical ≤ off → seek off best (e ∷ es) ≡ seek off (e ∷ es) es
   unfolding seek
-  seek-takes h = sym (at-most _ _ _ _ _ h refl)
+  seek_takes h = sym (at_most_lem _ _ _ _ _ h refl)
 
-  pub seek-stays : off < e.logical → seek off best (e ∷ es) ≡ best
+  pub seek_stays : off < e.logical → seek off best (e ∷ es) ≡ best
   unfolding seek
-  seek-stays h = sym (above _ _ _ _ _ h refl)
+  seek_stays h = sym (above _ _ _ _ _ h refl)
 
 -- ---- what is refused
 
@@ -57,29 +57,29 @@ pub record Touched (off stop : ℕ) (e : Extent) : Type 0 where
 
 module _ (d : Disk) (e : Extent) where
   pub counted_is : e.phys_block + blocks d.block e.len ≤ top → e.phys_block + blocks d.block e.len ≤ d.count → counted d e ≡ fine
-  unfolding countedIn
-  counted_is h k = sym (at-most _ _ _ _ _ h (at-most _ _ _ _ _ k refl))
+  unfolding counted_in
+  counted_is h k = sym (at_most_lem _ _ _ _ _ h (at_most_lem _ _ _ _ _ k refl))
 
-  pub counted-wide : top < e.phys_block + blocks d.block e.len → counted d e ≡ no Overflow
-  unfolding countedIn
-  counted-wide h = sym (above _ _ _ _ _ h refl)
+  pub counted_wide : top < e.phys_block + blocks d.block e.len → counted d e ≡ no Overflow
+  unfolding counted_in
+  counted_wide h = sym (above _ _ _ _ _ h refl)
 
-  pub counted-past : e.phys_block + blocks d.block e.len ≤ top → d.count < e.phys_block + blocks d.block e.len → counted d e ≡ no Corrupt
-  unfolding countedIn
-  counted-past h k = sym (at-most _ _ _ _ _ h (above _ _ _ _ _ k refl))
+  pub counted_past : e.phys_block + blocks d.block e.len ≤ top → d.count < e.phys_block + blocks d.block e.len → counted d e ≡ no Corrupt
+  unfolding counted_in
+  counted_past h k = sym (at_most_lem _ _ _ _ _ h (above _ _ _ _ _ k refl))
 
 module _ (d : Disk) (p q : ℕ) where
-  pub lies-is : p * d.block ≤ top → q * d.block ≤ length d.image → lies d p q ≡ fine
+  pub lies_is : p * d.block ≤ top → q * d.block ≤ length d.image → lies d p q ≡ fine
   unfolding lies
-  lies-is h k = sym (at-most _ _ _ _ _ h (at-most _ _ _ _ _ k refl))
+  lies_is h k = sym (at_most_lem _ _ _ _ _ h (at_most_lem _ _ _ _ _ k refl))
 
-  pub lies-wide : top < p * d.block → lies d p q ≡ no Overflow
+  pub lies_wide : top < p * d.block → lies d p q ≡ no Overflow
   unfolding lies
-  lies-wide h = sym (above _ _ _ _ _ h refl)
+  lies_wide h = sym (above _ _ _ _ _ h refl)
 
-  pub lies-past : p * d.block ≤ top → length d.image < q * d.block → lies d p q ≡ no Io
+  pub lies_past : p * d.block ≤ top → length d.image < q * d.block → lies d p q ≡ no Io
   unfolding lies
-  lies-past h k = sym (at-most _ _ _ _ _ h (above _ _ _ _ _ k refl))
+  lies_past h k = sym (at_most_lem _ _ _ _ _ h (above _ _ _ _ _ k refl))
 
   pub lies_within : lies d p q ≡ fine → q * d.block ≤ length d.image
   unfolding lies
@@ -90,23 +90,23 @@ module _ (d : Disk) (off stop : ℕ) (e : Extent) where
   abbrev pub Sound : Type 0
   Sound = reach d e (max off e.logical - e.logical) (min stop (end e) - e.logical) ≡ fine
 
-  pub allowed-end : allows d off stop e ≡ fine → end e ≤ top
+  pub allowed_end : allows d off stop e ≡ fine → end e ≤ top
   unfolding allows
-  allowed-end w = (passed _ _ _ _ _ w).0
+  allowed_end w = (passed _ _ _ _ _ w).0
 
-  pub allowed-sound : allows d off stop e ≡ fine → Touched off stop e → Sound
+  pub allowed_sound : allows d off stop e ≡ fine → Touched off stop e → Sound
   unfolding allows
-  allowed-sound w t = was-other _ _ _ _ _ (λ q. omega (arith, t.real)) (was-above _ _ _ _ _ t.some (passed _ _ _ _ _ w).1)
+  allowed_sound w t = was_other _ _ _ _ _ (λ q. omega (arith, t.real)) (was_above _ _ _ _ _ t.some (passed _ _ _ _ _ w).1)
 
-  pub sound-allowed : end e ≤ top → (Touched off stop e → Sound) → allows d off stop e ≡ fine
+  pub sound_allowed : end e ≤ top → (Touched off stop e → Sound) → allows d off stop e ≡ fine
   unfolding allows
-  sound-allowed h s = go (le-or-gt (min stop (end e)) (max off e.logical)) (le-or-gt e.phys_block 0)
+  sound_allowed h s = go (le_or_gt (min stop (end e)) (max off e.logical)) (le_or_gt e.phys_block 0)
     where
       go : (min stop (end e) ≤ max off e.logical) ⊎ (max off e.logical < min stop (end e)) → (e.phys_block ≤ 0) ⊎ (0 < e.phys_block) → allows d off stop e ≡ fine
-      go (inl t) u = sym (at-most _ _ _ _ _ h (at-most _ _ _ _ _ t refl))
-      go (inr t) (inl u) = sym (at-most _ _ _ _ _ h (above _ _ _ _ _ t (same _ _ _ _ _ (omega arith) refl)))
-      go (inr t) (inr u) = sym (at-most _ _ _ _ _ h (above _ _ _ _ _ t (other _ _ _ _ _ (λ q. omega arith) (sym (s (record { some = t; real = u }))))))
+      go (inl t) u = sym (at_most_lem _ _ _ _ _ h (at_most_lem _ _ _ _ _ t refl))
+      go (inr t) (inl u) = sym (at_most_lem _ _ _ _ _ h (above _ _ _ _ _ t (same _ _ _ _ _ (omega arith) refl)))
+      go (inr t) (inr u) = sym (at_most_lem _ _ _ _ _ h (above _ _ _ _ _ t (other _ _ _ _ _ (λ q. omega arith) (sym (s (record { some = t; real = u }))))))
 
-pub reach-within : (d : Disk) (e : Extent) (a b : ℕ) → 0 < d.block → reach d e a b ≡ fine → e.phys_block * d.block + b ≤ length d.image
+pub reach_within : (d : Disk) (e : Extent) (a b : ℕ) → 0 < d.block → reach d e a b ≡ fine → e.phys_block * d.block + b ≤ length d.image
 unfolding reach
-reach-within d e a b pos w = omega (arith, lies_within d _ _ (went (counted d e) _ _ w).1, blocks-hold d.block pos b)
+reach_within d e a b pos w = omega (arith, lies_within d _ _ (went (counted d e) _ _ w).1, blocks_hold d.block pos b)

@@ -6,30 +6,30 @@ use mathlib.Core.Logic.{◌⊎◌, inl, inr}
 use lib.Dec.{leb}
 use native.Mathlib.Omega.{arith}
 use borrow.Author.Tests.{le-leb, lt-leb, eq-eqb, ne_eqb, leb-true, leb-false}
-use Rattle.error.specs.Answer.{Answer, got, no, ◌>>=◌, ifLe, ifEq, pick}
+use Rattle.error.specs.Answer.{Answer, got, no, ◌>>=◌, if_le, if_eq, pick}
 use Rattle.error.specs.declared.Refusal.{Refusal}
 use Rattle.extents.specs.Verdict.{Verdict, fine, ◌>>◌, at_most}
 
 -- what is left of an answer once a test's outcome is known
 module _ {A : Type 0} (a b : ℕ) (x y z : A) where
-  pub was-most : a ≤ b → ifLe a b x y ≡ z → x ≡ z
-  unfolding ifLe
-  was-most h e = rw (le-leb a b h) at e
+  pub was_most : a ≤ b → if_le a b x y ≡ z → x ≡ z
+  unfolding if_le
+  was_most h e = rw (le-leb a b h) at e
 
-  pub was-above : b < a → ifLe a b x y ≡ z → y ≡ z
-  unfolding ifLe
-  was-above h e = rw (lt-leb a b h) at e
+  pub was_above : b < a → if_le a b x y ≡ z → y ≡ z
+  unfolding if_le
+  was_above h e = rw (lt-leb a b h) at e
 
-  pub was-same : a ≡ b → ifEq a b x y ≡ z → x ≡ z
-  unfolding ifEq
-  was-same h e = rw (eq-eqb a b h) at e
+  pub was_same : a ≡ b → if_eq a b x y ≡ z → x ≡ z
+  unfolding if_eq
+  was_same h e = rw (eq-eqb a b h) at e
 
-  pub was-other : (a ≡ b → ⊥) → ifEq a b x y ≡ z → y ≡ z
-  unfolding ifEq
-  was-other h e = rw (ne_eqb a b h) at e
+  pub was_other : (a ≡ b → ⊥) → if_eq a b x y ≡ z → y ≡ z
+  unfolding if_eq
+  was_other h e = rw (ne_eqb a b h) at e
 
-pub le-or-gt : (a b : ℕ) → (a ≤ b) ⊎ (b < a)
-le-or-gt a b = go (leb a b) refl
+pub le_or_gt : (a b : ℕ) → (a ≤ b) ⊎ (b < a)
+le_or_gt a b = go (leb a b) refl
   where
     go : (t : Bool) → leb a b ≡ t → (a ≤ b) ⊎ (b < a)
     go true e = inl (leb-true a b e)
@@ -37,7 +37,7 @@ le-or-gt a b = go (leb a b) refl
 
 -- a test that was passed
 pub passed : {A : Type 0} (a b : ℕ) (w : Refusal) (x : Answer A) (y : A) → at_most a b w x ≡ got y → (a ≤ b) × (x ≡ got y)
-unfolding ifLe
+unfolding if_le
 passed a b w x y e = go (leb a b) refl e
   where
     go : (t : Bool) → leb a b ≡ t → pick t x (no w) ≡ got y → (a ≤ b) × (x ≡ got y)
@@ -53,6 +53,6 @@ pub assoc : {A : Type 0} (v w : Verdict) (x : Answer A) → ((v >> w) >> x) ≡ 
 assoc (got a) w x = refl
 assoc (no e) w x = refl
 
-pub after-bind : {A B : Type 0} (v : Verdict) (x : Answer A) (f : A → Answer B) → ((v >> x) >>= f) ≡ (v >> (x >>= f))
-after-bind (got a) x f = refl
-after-bind (no e) x f = refl
+pub after_bind : {A B : Type 0} (v : Verdict) (x : Answer A) (f : A → Answer B) → ((v >> x) >>= f) ≡ (v >> (x >>= f))
+after_bind (got a) x f = refl
+after_bind (no e) x f = refl

@@ -1,6 +1,6 @@
 -- A test that only lets pass or refuses. Document 01, "Answers other than success": "the first fault in the Rust's order of reading counts".
 use Rattle.std.specs.Prelude.{ℕ}
-use Rattle.error.specs.Answer.{Answer, got, no, ifLe}
+use Rattle.error.specs.Answer.{Answer, got, no, if_le}
 use Rattle.error.specs.declared.Refusal.{Refusal}
 
 abbrev pub Verdict : Type 0
@@ -17,4 +17,4 @@ no e >> b = no e
 
 -- a must be at most b, else it is the refusal e
 abbrev pub at_most : {A : Type 0} → ℕ → ℕ → Refusal → Answer A → Answer A
-at_most a b e x = ifLe a b x (no e)
+at_most a b e x = if_le a b x (no e)

@@ -1,11 +1,11 @@
 // The deciding pass: all extents of a file are read, and no byte of the buffer is written.
 ghost use Rattle.std.specs.Prelude.{◌≡◌, false, leb};
-ghost use Rattle.error.specs.Answer.{pick, ifLe};
-ghost use Rattle.btree.specs.Scan.{scanOf};
+ghost use Rattle.error.specs.Answer.{pick, if_le};
+ghost use Rattle.btree.specs.Scan.{scan_of};
 ghost use Rattle.cursor.specs.Left.{run_at};
-ghost use Rattle.extents.specs.Extents.{diskOf};
+ghost use Rattle.extents.specs.Extents.{disk_of};
 ghost use Rattle.extents.specs.Ruling.{ruled};
-ghost use Rattle.extents.specs.Inner.{bothOf, OneMore, closing, judgedTold, judgedOf};
+ghost use Rattle.extents.specs.Inner.{both_of, OneMore, closing, judged_told, judged_of};
 
 use crate::verdict::{Ruling, touches_at};
 use btree::Search;
@@ -33,7 +33,7 @@ pub struct Judged {
 }
 
 fn both(a: Ruling, b: Ruling) -> Ruling
-    ensures { ruled result ≡ bothOf (ruled a) (ruled b) }
+    ensures { ruled result ≡ both_of (ruled a) (ruled b) }
 {
     match a {
         Ruling::Fine => b,
@@ -42,7 +42,7 @@ fn both(a: Ruling, b: Ruling) -> Ruling
 }
 
 fn still_rises(rises: bool, last: u64, start: u64) -> bool
-    ensures { result ≡ ifLe last start rises false }
+    ensures { result ≡ if_le last start rises false }
 {
     if start < last {
         return false;
@@ -51,7 +51,7 @@ fn still_rises(rises: bool, last: u64, start: u64) -> bool
 }
 
 fn one_more(image: &[u8], reader: Reader, off: u64, stop: u64, j: Judging, e: Extent) -> Judging
-    ensures { OneMore (diskOf reader image.now) off stop j e result }
+    ensures { OneMore (disk_of reader image.now) off stop j e result }
 {
     let rises = still_rises(j.rises, j.last, e.logical);
     let one = touches_at(image, reader, off, stop, e);
@@ -109,7 +109,7 @@ fn begins_by(e: Extent, off: u64) -> bool
 
 // The extents from a step on.
 pub fn judge_from(image: &[u8], q: Search, off: u64, stop: u64, start: Step) -> Judged
-    ensures { judgedTold image.now q result ≡ judgedOf image.now q off stop (run_at image.now q start start.from) }
+    ensures { judged_told image.now q result ≡ judged_of image.now q off stop (run_at image.now q start start.from) }
 {
     let keys = q.keys;
     let reader = keys.reader;
@@ -148,7 +148,7 @@ pub fn judge_from(image: &[u8], q: Search, off: u64, stop: u64, start: Step) -> 
 }
 
 pub fn judge(image: &[u8], q: Search, off: u64, stop: u64, nodes: u64) -> Judged
-    ensures { judgedTold image.now q result ≡ judgedOf image.now q off stop (scanOf image.now q nodes) }
+    ensures { judged_told image.now q result ≡ judged_of image.now q off stop (scan_of image.now q nodes) }
 {
     judge_from(image, q, off, stop, first(image, q, nodes))
 }

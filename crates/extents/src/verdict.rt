@@ -1,6 +1,6 @@
 // Whether an extent's bytes may be read: no byte is touched before all is decided.
 ghost use Rattle.std.specs.Prelude.{◌≡◌, ◌-◌, ◌≤◌, ◌<◌, min, max};
-ghost use Rattle.extents.specs.Extents.{diskOf, blocks, countedIn, lies, reach, allows};
+ghost use Rattle.extents.specs.Extents.{disk_of, blocks, counted_in, lies, reach, allows};
 ghost use Rattle.extents.specs.Inner.{touches};
 ghost use Rattle.extents.specs.Ruling.{ruled};
 
@@ -59,7 +59,7 @@ pub fn blocks_in(reader: Reader, n: u64) -> u64
 
 // The extent ends within the container.
 pub fn counted_at(reader: Reader, e: Extent) -> Ruling
-    ensures { ruled result ≡ countedIn (max 1 reader.block_size) reader.block_count e }
+    ensures { ruled result ≡ counted_in (max 1 reader.block_size) reader.block_count e }
 {
     let n = blocks_of(block_size(reader), e.len);
     if 18446744073709551615 - n < e.phys_block {
@@ -73,7 +73,7 @@ pub fn counted_at(reader: Reader, e: Extent) -> Ruling
 
 // The blocks from p up to q lie in the image.
 pub fn lies_at(image: &[u8], reader: Reader, p: u64, q: u64) -> Ruling
-    ensures { ruled result ≡ lies (diskOf reader image.now) p q }
+    ensures { ruled result ≡ lies (disk_of reader image.now) p q }
 {
     let bs = block_size(reader);
     if 18446744073709551615 / bs < p {
@@ -88,7 +88,7 @@ pub fn lies_at(image: &[u8], reader: Reader, p: u64, q: u64) -> Ruling
 // The extent's own bytes from its a-th up to its b-th can be read.
 fn reach_at(image: &[u8], reader: Reader, e: Extent, a: u64, b: u64) -> Ruling
     requires { (a < b) × (b ≤ e.len) }
-    ensures { ruled result ≡ reach (diskOf reader image.now) e a b }
+    ensures { ruled result ≡ reach (disk_of reader image.now) e a b }
 {
     match counted_at(reader, e) {
         Ruling::No(r) => return Ruling::No(r),
@@ -101,7 +101,7 @@ fn reach_at(image: &[u8], reader: Reader, e: Extent, a: u64, b: u64) -> Ruling
 
 // The extent's part of the file's bytes from off up to stop may be read.
 fn allows_at(image: &[u8], reader: Reader, off: u64, stop: u64, e: Extent) -> Ruling
-    ensures { ruled result ≡ allows (diskOf reader image.now) off stop e }
+    ensures { ruled result ≡ allows (disk_of reader image.now) off stop e }
 {
     if 18446744073709551615 - e.len < e.logical {
         return Ruling::No(Refusal::Overflow);
@@ -119,7 +119,7 @@ fn allows_at(image: &[u8], reader: Reader, off: u64, stop: u64, e: Extent) -> Ru
 
 // The same, of an extent that is not looked at where it starts at or past stop.
 pub fn touches_at(image: &[u8], reader: Reader, off: u64, stop: u64, e: Extent) -> Ruling
-    ensures { ruled result ≡ touches (diskOf reader image.now) off stop e }
+    ensures { ruled result ≡ touches (disk_of reader image.now) off stop e }
 {
     if stop <= e.logical {
         return Ruling::Fine;

@@ -12,27 +12,27 @@ use borrow.Author.Rules.{rules}
 use Rattle.error.specs.Answer.{pick}
 use Rattle.error.specs.declared.Refusal.{Refusal}
 use Rattle.error.proofs.Laws.{same, other}
-use Rattle.bytes.specs.Part.{upToZero}
+use Rattle.byte_fields.specs.Part.{up_to_zero}
 use Rattle.utf8.specs.Text.{piece_of, size_of}
-use Rattle.utf8.proofs.Pieces.{size-pos, size-within}
-use Rattle.text.specs.Output.{Output, outputOf, puts}
+use Rattle.utf8.proofs.Pieces.{size_pos, size_within}
+use Rattle.text.specs.Output.{Output, output_of, puts}
 use Rattle.text.specs.declared.Position.{Position}
 use Rattle.text.specs.declared.Position.TheVariants.{No}
-use Rattle.text.proofs.Writing.{puts-append, puts-refused}
-use Rattle.feed.specs.Fed.{writtenAs, shownAs, waiting, fed, begun, Room}
+use Rattle.text.proofs.Writing.{puts_append, puts_refused}
+use Rattle.feed.specs.Fed.{written_as, shown_as, waiting, fed, begun, Room}
 use Rattle.feed.specs.declared.window.Window.{Window}
 use Rattle.feed.specs.declared.feed.Feed.{Feed}
-use Rattle.feed.proofs.Windows.{written-front}
+use Rattle.feed.proofs.Windows.{written_front}
 
 take_min : (n : ℕ) (l : List ℕ) → take (min n (length l)) l ≡ take n l
 take_min zero l = rw zero-min
 take_min (suc n) [] = take-nil (min (suc n) 0)
 take_min (suc n) (x ∷ l) = rw (suc-min-suc, take_min n l)
 
-pick-none : (d : Bool) → pick d [] (upToZero []) ≡ []
-unfolding upToZero
-pick-none true = refl
-pick-none false = refl
+pick_none : (d : Bool) → pick d [] (up_to_zero []) ≡ []
+unfolding up_to_zero
+pick_none true = refl
+pick_none false = refl
 
 pub begins : (marks : Bool) (room : ℕ) (p : Position) (w : Window) (b xs : List ℕ) → waiting w ≡ [] → fed room (record { marks = marks; window = w; ended = false; position = p }) b xs ≡ begun marks room p b xs
 unfolding fed begun
@@ -40,78 +40,78 @@ begins marks room p w b xs h = rw h
 
 module _ (room : ℕ) (f : Feed) where
   -- after a zero byte nothing counts
-  pub ended-any : (b xs ys : List ℕ) → f.ended ≡ true → fed room f b xs ≡ fed room f b ys
+  pub ended_any : (b xs ys : List ℕ) → f.ended ≡ true → fed room f b xs ≡ fed room f b ys
   unfolding fed
-  ended-any b xs ys h = rw h
+  ended_any b xs ys h = rw h
 
   -- nor after a refusal
-  pub refused-any : (b xs ys : List ℕ) (e : Refusal) → f.position ≡ No e → fed room f b xs ≡ fed room f b ys
+  pub refused_any : (b xs ys : List ℕ) (e : Refusal) → f.position ≡ No e → fed room f b xs ≡ fed room f b ys
   unfolding fed
-  refused-any b xs ys e h = rw h (puts-refused room _ e ∙ sym (puts-refused room _ e))
+  refused_any b xs ys e h = rw h (puts_refused room _ e ∙ sym (puts_refused room _ e))
 
-  pub zero-ends : (x : ℕ) (b xs : List ℕ) → f.ended ≡ false → x ≡ 0 → fed room (record { marks = f.marks; window = f.window; ended = true; position = f.position }) b xs ≡ fed room f b (x ∷ xs)
-  unfolding fed upToZero
-  zero-ends x b xs h e =
-      let k : [] ≡ upToZero (x ∷ xs) = same _ _ _ _ _ e refl in
+  pub zero_ends : (x : ℕ) (b xs : List ℕ) → f.ended ≡ false → x ≡ 0 → fed room (record { marks = f.marks; window = f.window; ended = true; position = f.position }) b xs ≡ fed room f b (x ∷ xs)
+  unfolding fed up_to_zero
+  zero_ends x b xs h e =
+      let k : [] ≡ up_to_zero (x ∷ xs) = same _ _ _ _ _ e refl in
       rw (h, ← k)
 
   -- a full window's first piece is written, and v is left
   module _ (b c : List ℕ) (v : Window) (q : Position) (n : ℕ) (l : length f.window.bytes ≡ 4) (k : 4 ≤ f.window.len) (e : n ≡ size_of (piece_of f.window.bytes)) where
-    pub piece-short : n ≤ 4
-    piece-short = omega (arith, e, size-within f.window.bytes)
+    pub piece_short : n ≤ 4
+    piece_short = omega (arith, e, size_within f.window.bytes)
 
-    pub room-made : outputOf q c ≡ puts room (shownAs f.marks (piece_of f.window.bytes) f.window.bytes) (outputOf f.position b) → waiting v ≡ drop n f.window.bytes → v.len ≡ 4 - n → Room room f b (record { marks = f.marks; window = v; ended = f.ended; position = q }) c
+    pub room_made : output_of q c ≡ puts room (shown_as f.marks (piece_of f.window.bytes) f.window.bytes) (output_of f.position b) → waiting v ≡ drop n f.window.bytes → v.len ≡ 4 - n → Room room f b (record { marks = f.marks; window = v; ended = f.ended; position = q }) c
     unfolding fed
-    room-made h g m =
+    room_made h g m =
         let w = f.window.bytes in
         let t : take f.window.len w ≡ w = take_all f.window.len w (omega arith) in
         record {
-          short = omega (arith, e, size-pos w (omega arith));
+          short = omega (arith, e, size_pos w (omega arith));
           ends = refl;
-          kept = λ xs. rw (g, h, e, ← puts-append, t, written-front f.marks w _ (omega arith));
+          kept = λ xs. rw (g, h, e, ← puts_append, t, written_front f.marks w _ (omega arith));
         }
 
   appended : (x : ℕ) (c xs : List ℕ) (g : Feed) (v : Window) → g.ended ≡ false → (x ≡ 0 → ⊥) → waiting v ≡ waiting g.window ++ (x ∷ [])
       → fed room (record { marks = g.marks; window = v; ended = g.ended; position = g.position }) c xs ≡ fed room g c (x ∷ xs)
-  unfolding fed upToZero
+  unfolding fed up_to_zero
   appended x c xs g v h k e =
-      let u : x ∷ upToZero xs ≡ upToZero (x ∷ xs) = other _ _ _ _ _ k refl in
+      let u : x ∷ up_to_zero xs ≡ up_to_zero (x ∷ xs) = other _ _ _ _ _ k refl in
       rw (h, ← u, e, append_assoc)
 
-  pub byte-waits : (x : ℕ) (b c xs : List ℕ) (g : Feed) (v : Window) → Room room f b g c → f.ended ≡ false → (x ≡ 0 → ⊥) → waiting v ≡ waiting g.window ++ (x ∷ [])
+  pub byte_waits : (x : ℕ) (b c xs : List ℕ) (g : Feed) (v : Window) → Room room f b g c → f.ended ≡ false → (x ≡ 0 → ⊥) → waiting v ≡ waiting g.window ++ (x ∷ [])
       → fed room (record { marks = g.marks; window = v; ended = g.ended; position = g.position }) c xs ≡ fed room f b (x ∷ xs)
-  byte-waits x b c xs g v r h k e = appended x c xs g v (r.ends ∙ h) k e ∙ r.kept (x ∷ xs)
+  byte_waits x b c xs g v r h k e = appended x c xs g v (r.ends ∙ h) k e ∙ r.kept (x ∷ xs)
 
-  pub no-zeros : (n : ℕ) (b xs : List ℕ) → n ≡ 0 → fed room f b xs ≡ fed room f b (replicate n 0 ++ xs)
-  no-zeros n b xs h = rw h
+  pub no_zeros : (n : ℕ) (b xs : List ℕ) → n ≡ 0 → fed room f b xs ≡ fed room f b (replicate n 0 ++ xs)
+  no_zeros n b xs h = rw h
 
-  pub zeros-end : (n : ℕ) (b c xs : List ℕ) (r : Feed) → (n ≡ 0 → ⊥) → ((ys : List ℕ) → fed room r c ys ≡ fed room f b (0 ∷ ys)) → fed room r c xs ≡ fed room f b (replicate n 0 ++ xs)
-  unfolding fed upToZero
-  zeros-end zero b c xs r h k = absurd (h refl)
-  zeros-end (suc n) b c xs r h k =
-      let u : [] ≡ upToZero (0 ∷ xs) = same 0 0 _ _ _ refl refl in
-      let v : [] ≡ upToZero (0 ∷ (replicate n 0 ++ xs)) = same 0 0 _ _ _ refl refl in
+  pub zeros_end : (n : ℕ) (b c xs : List ℕ) (r : Feed) → (n ≡ 0 → ⊥) → ((ys : List ℕ) → fed room r c ys ≡ fed room f b (0 ∷ ys)) → fed room r c xs ≡ fed room f b (replicate n 0 ++ xs)
+  unfolding fed up_to_zero
+  zeros_end zero b c xs r h k = absurd (h refl)
+  zeros_end (suc n) b c xs r h k =
+      let u : [] ≡ up_to_zero (0 ∷ xs) = same 0 0 _ _ _ refl refl in
+      let v : [] ≡ up_to_zero (0 ∷ (replicate n 0 ++ xs)) = same 0 0 _ _ _ refl refl in
       k xs ∙ rw (← u, ← v)
 
-  pub finished : (b : List ℕ) (n : ℕ) (z : Output) → n ≡ min f.window.len (length f.window.bytes) → z ≡ puts room (writtenAs f.marks (take n f.window.bytes)) (outputOf f.position b) → z ≡ fed room f b []
-  unfolding fed upToZero
-  finished b n z e h = h ∙ rw (e, take_min, pick-none, append-nil)
+  pub finished : (b : List ℕ) (n : ℕ) (z : Output) → n ≡ min f.window.len (length f.window.bytes) → z ≡ puts room (written_as f.marks (take n f.window.bytes)) (output_of f.position b) → z ≡ fed room f b []
+  unfolding fed up_to_zero
+  finished b n z e h = h ∙ rw (e, take_min, pick_none, append-nil)
 
-  pub count-is : (n : ℕ) → n ≡ min f.window.len (length f.window.bytes) → n ≡ length (take n f.window.bytes)
-  count-is n e = sym (length-take-le n _ (omega arith))
+  pub count_is : (n : ℕ) → n ≡ min f.window.len (length f.window.bytes) → n ≡ length (take n f.window.bytes)
+  count_is n e = sym (length-take-le n _ (omega arith))
 
 -- what comes of the bytes from i on, and then of xs, is the whole, w
 module _ (room : ℕ) (bytes : List ℕ) (i : ℕ) (g : Feed) (b xs : List ℕ) (w : Output) (inv : fed room g b (drop i bytes ++ xs) ≡ w) where
-  pub all-came : length bytes ≤ i → fed room g b xs ≡ w
-  all-came h = rw (drop_of_length-le bytes h) at inv
+  pub all_came : length bytes ≤ i → fed room g b xs ≡ w
+  all_came h = rw (drop_of_length-le bytes h) at inv
 
-  pub none-count : g.ended ≡ true → fed room g b xs ≡ w
-  none-count h = ended-any room g b _ _ h ∙ inv
+  pub none_count : g.ended ≡ true → fed room g b xs ≡ w
+  none_count h = ended_any room g b _ _ h ∙ inv
 
-  pub none-fit : (e : Refusal) → g.position ≡ No e → fed room g b xs ≡ w
-  none-fit e h = refused-any room g b _ _ e h ∙ inv
+  pub none_fit : (e : Refusal) → g.position ≡ No e → fed room g b xs ≡ w
+  none_fit e h = refused_any room g b _ _ e h ∙ inv
 
-  pub byte-came : (r : Feed) (c : List ℕ) → i < length bytes → ((ys : List ℕ) → fed room r c ys ≡ fed room g b (get_or bytes i 0 ∷ ys)) → fed room r c (drop (i + 1) bytes ++ xs) ≡ w
-  byte-came r c h k = rw add-one (k (drop (suc i) bytes ++ xs) ∙ (rw (drop-cons bytes i 0 h) at inv))
+  pub byte_came : (r : Feed) (c : List ℕ) → i < length bytes → ((ys : List ℕ) → fed room r c ys ≡ fed room g b (get_or bytes i 0 ∷ ys)) → fed room r c (drop (i + 1) bytes ++ xs) ≡ w
+  byte_came r c h k = rw add-one (k (drop (suc i) bytes ++ xs) ∙ (rw (drop-cons bytes i 0 h) at inv))
 
-pub ruleset all = (rules, begins, ended-any, zero-ends, piece-short, room-made, byte-waits, no-zeros, zeros-end, finished, count-is, all-came, none-count, none-fit, byte-came)
+pub ruleset all = (rules, begins, ended_any, zero_ends, piece_short, room_made, byte_waits, no_zeros, zeros_end, finished, count_is, all_came, none_count, none_fit, byte_came)

@@ -9,11 +9,11 @@ use lib.Seq.{take_all, take-suc, take-suc-set, get_or-drop, take-append-le, drop
 use native.Mathlib.Omega.{arith}
 use native.Mathlib.Numerals.{add-one}
 use borrow.Author.Rules.{rules}
-use Rattle.utf8.specs.Text.{Range, Rest, none, then, rest_of, agree, pieceAfter, piece_of, size_of, shown}
+use Rattle.utf8.specs.Text.{Range, Rest, none, then, rest_of, agree, piece_after, piece_of, size_of, shown}
 use Rattle.utf8.specs.declared.Piece.{Piece}
 use Rattle.utf8.specs.declared.Piece.TheVariants.{End, WellFormed, IllFormed}
-use Rattle.utf8.proofs.Pieces.{in-cases, size-within}
-use Rattle.feed.specs.Fed.{writtenAs, shownAs}
+use Rattle.utf8.proofs.Pieces.{in_cases, size_within}
+use Rattle.feed.specs.Fed.{written_as, shown_as}
 use Rattle.feed.proofs.Reading.{written_next}
 
 -- a byte after the n bytes of a window
@@ -22,8 +22,8 @@ one_more w n x h = rw add-one (take-suc-set w n x h)
 
 -- the bytes of w from n on, moved to the front of v
 module _ (w v : List ℕ) (n i : ℕ) (h : length w ≡ 4) (l : n ≤ 4) where
-  pub moved-next : length v ≡ 4 → i < 4 - n → take i v ≡ take i (drop n w) → take (i + 1) (set v i (get_or w (n + i) 0)) ≡ take (i + 1) (drop n w)
-  moved-next g k e =
+  pub moved_next : length v ≡ 4 → i < 4 - n → take i v ≡ take i (drop n w) → take (i + 1) (set v i (get_or w (n + i) 0)) ≡ take (i + 1) (drop n w)
+  moved_next g k e =
       let m : i < length (drop n w) = omega (arith, length-drop n w) in
       let q : take (suc i) (drop n w) ≡ take i (drop n w) ++ (get_or w (n + i) 0 ∷ []) = take-suc (drop n w) i 0 m ∙ rw get_or-drop in
       rw (add-one, take-suc-set v i _ (omega arith), q, e)
@@ -39,38 +39,38 @@ Short (then rs) = length rs ≤ 3
 short : (x : ℕ) → Short (rest_of x)
 unfolding rest_of Short
 short x =
-    in-cases Short (λ h k. lit≤ tt)
-    (in-cases Short (λ h k. lit≤ tt)
-    (in-cases Short (λ h k. lit≤ tt)
-    (in-cases Short (λ h k. lit≤ tt)
-    (in-cases Short (λ h k. lit≤ tt)
-    (in-cases Short (λ h k. lit≤ tt)
-    (in-cases Short (λ h k. lit≤ tt)
-    (in-cases Short (λ h k. lit≤ tt) (in-cases Short (λ h k. lit≤ tt) tt))))))))
+    in_cases Short (λ h k. lit≤ tt)
+    (in_cases Short (λ h k. lit≤ tt)
+    (in_cases Short (λ h k. lit≤ tt)
+    (in_cases Short (λ h k. lit≤ tt)
+    (in_cases Short (λ h k. lit≤ tt)
+    (in_cases Short (λ h k. lit≤ tt)
+    (in_cases Short (λ h k. lit≤ tt)
+    (in_cases Short (λ h k. lit≤ tt) (in_cases Short (λ h k. lit≤ tt) tt))))))))
 
-agree-front : (rs : List Range) (b x : List ℕ) → length rs ≤ length b → agree rs (b ++ x) ≡ agree rs b
+agree_front : (rs : List Range) (b x : List ℕ) → length rs ≤ length b → agree rs (b ++ x) ≡ agree rs b
 unfolding agree
-agree-front [] b x h = refl
-agree-front (r ∷ rs) [] x h = absurd (omega arith)
-agree-front (r ∷ rs) (c ∷ b) x h = rw (agree-front rs b x (omega arith))
+agree_front [] b x h = refl
+agree_front (r ∷ rs) [] x h = absurd (omega arith)
+agree_front (r ∷ rs) (c ∷ b) x h = rw (agree_front rs b x (omega arith))
 
-pub piece-front : (w x : List ℕ) → 4 ≤ length w → piece_of (w ++ x) ≡ piece_of w
+pub piece_front : (w x : List ℕ) → 4 ≤ length w → piece_of (w ++ x) ≡ piece_of w
 unfolding piece_of Short
-piece-front [] x h = absurd (omega arith)
-piece-front (a ∷ w) x h = of (rest_of a) (short a)
+piece_front [] x h = absurd (omega arith)
+piece_front (a ∷ w) x h = of (rest_of a) (short a)
   where
-    of : (r : Rest) → Short r → pieceAfter r (w ++ x) ≡ pieceAfter r w
+    of : (r : Rest) → Short r → piece_after r (w ++ x) ≡ piece_after r w
     of none s = refl
-    of (then rs) s = rw (agree-front rs w x (omega arith))
+    of (then rs) s = rw (agree_front rs w x (omega arith))
 
-shown-front : (w x : List ℕ) (p : Piece) → size_of p ≤ length w → shown p (w ++ x) ≡ shown p w
-shown-front w x End h = refl
-shown-front w x (WellFormed n) h = take-append-le n w x h
-shown-front w x (IllFormed n) h = refl
+shown_front : (w x : List ℕ) (p : Piece) → size_of p ≤ length w → shown p (w ++ x) ≡ shown p w
+shown_front w x End h = refl
+shown_front w x (WellFormed n) h = take-append-le n w x h
+shown_front w x (IllFormed n) h = refl
 
 -- the first piece of a window of 4 bytes, and the rest of it with what follows
-pub written-front : (marks : Bool) (w x : List ℕ) → 4 ≤ length w → writtenAs marks (w ++ x) ≡ shownAs marks (piece_of w) w ++ writtenAs marks (drop (size_of (piece_of w)) w ++ x)
-written-front marks w x h =
-    written_next marks (w ++ x) ∙ rw (piece-front w x h, shown-front w x (piece_of w) (size-within w), drop-append-le (size_of (piece_of w)) w x (size-within w))
+pub written_front : (marks : Bool) (w x : List ℕ) → 4 ≤ length w → written_as marks (w ++ x) ≡ shown_as marks (piece_of w) w ++ written_as marks (drop (size_of (piece_of w)) w ++ x)
+written_front marks w x h =
+    written_next marks (w ++ x) ∙ rw (piece_front w x h, shown_front w x (piece_of w) (size_within w), drop-append-le (size_of (piece_of w)) w x (size_within w))
 
-pub ruleset windows = (rules, refl, one_more, moved-next, moved_all)
+pub ruleset windows = (rules, refl, one_more, moved_next, moved_all)

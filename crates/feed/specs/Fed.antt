@@ -2,21 +2,21 @@
 -- "`cstr` stops at the first zero byte or the end and reads lossily"; document 02, request 02.
 use Rattle.std.specs.Prelude.{ℕ, ◌<◌, ◌≡◌, Bool, List, [], ◌++◌, take, replicate}
 use Rattle.error.specs.Answer.{pick}
-use Rattle.bytes.specs.Part.{upToZero}
-use Rattle.utf8.specs.Text.{lossy, replaced, shown, oneIfReplaced}
+use Rattle.byte_fields.specs.Part.{up_to_zero}
+use Rattle.utf8.specs.Text.{lossy, replaced, shown, one_if_replaced}
 use Rattle.utf8.specs.declared.Piece.{Piece}
-use Rattle.text.specs.Output.{Output, outputOf, puts}
+use Rattle.text.specs.Output.{Output, output_of, puts}
 use Rattle.text.specs.declared.Position.{Position}
 use Rattle.feed.specs.declared.window.Window.{Window}
 use Rattle.feed.specs.declared.feed.Feed.{Feed}
 
 -- what a text is written as: its lossy reading, or a zero byte for each part of it that is replaced (document 02, request 02)
-unfoldable pub writtenAs : Bool → List ℕ → List ℕ
-writtenAs marks b = pick marks (replicate (replaced b) 0) (lossy b)
+unfoldable pub written_as : Bool → List ℕ → List ℕ
+written_as marks b = pick marks (replicate (replaced b) 0) (lossy b)
 
 -- what its first piece is written as
-abbrev pub shownAs : Bool → Piece → List ℕ → List ℕ
-shownAs marks p b = pick marks (replicate (oneIfReplaced p) 0) (shown p b)
+abbrev pub shown_as : Bool → Piece → List ℕ → List ℕ
+shown_as marks p b = pick marks (replicate (one_if_replaced p) 0) (shown p b)
 
 -- the bytes that came and are not written yet
 abbrev pub waiting : Window → List ℕ
@@ -24,11 +24,11 @@ waiting w = take w.len w.bytes
 
 -- what was written, once the bytes xs have come too and all is written: document 01, "stops at the first zero byte or the end"
 unfoldable pub fed : ℕ → Feed → List ℕ → List ℕ → Output
-fed room f out xs = puts room (writtenAs f.marks (waiting f.window ++ pick f.ended [] (upToZero xs))) (outputOf f.position out)
+fed room f out xs = puts room (written_as f.marks (waiting f.window ++ pick f.ended [] (up_to_zero xs))) (output_of f.position out)
 
 -- the same where no byte has come yet
 unfoldable pub begun : Bool → ℕ → Position → List ℕ → List ℕ → Output
-begun marks room p out xs = puts room (writtenAs marks (upToZero xs)) (outputOf p out)
+begun marks room p out xs = puts room (written_as marks (up_to_zero xs)) (output_of p out)
 
 -- r with its buffer is f with its own, and has room in its window
 pub record Room (room : ℕ) (f : Feed) (before : List ℕ) (r : Feed) (after : List ℕ) : Type 0 where

@@ -1,6 +1,6 @@
 // Bytes that come one after the other, read up to the first zero byte.
 ghost use Rattle.std.specs.Prelude.{◌≡◌, List, [], ◌∷◌, ◌++◌, ℕ, replicate};
-ghost use Rattle.text.specs.Output.{outputOf};
+ghost use Rattle.text.specs.Output.{output_of};
 ghost use Rattle.feed.specs.Fed.{fed, begun, Room};
 
 use crate::pieces::{put_piece, put_pieces};
@@ -108,7 +108,7 @@ pub fn push_zeros(out: &mut [u8], room: usize, f: Feed, n: u64) -> Feed
 
 // No more bytes come: what waits is written.
 pub fn finish(out: &mut [u8], room: usize, f: Feed) -> Position
-    ensures { outputOf result out.new ≡ fed room f out.old [] }
+    ensures { output_of result out.new ≡ fed room f out.old [] }
 {
     let w = f.window;
     let p = f.position;

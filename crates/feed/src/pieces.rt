@@ -2,8 +2,8 @@
 ghost use Rattle.std.specs.Prelude.{◌≡◌, [], ◌∷◌};
 ghost use Rattle.error.specs.Answer.{pick};
 ghost use Rattle.utf8.specs.Text.{piece_of, size_of, replacement};
-ghost use Rattle.text.specs.Output.{outputOf, puts};
-ghost use Rattle.feed.specs.Fed.{writtenAs, shownAs};
+ghost use Rattle.text.specs.Output.{output_of, puts};
+ghost use Rattle.feed.specs.Fed.{written_as, shown_as};
 
 use text::{Position, put_all, put_byte};
 use utf8::Piece;
@@ -16,7 +16,7 @@ pub struct Written {
 }
 
 fn put_whole(out: &mut [u8], room: usize, p: Position, piece: &[u8], marks: bool) -> Position
-    ensures { outputOf result out.new ≡ puts room (pick marks [] piece.now) (outputOf p out.old) }
+    ensures { output_of result out.new ≡ puts room (pick marks [] piece.now) (output_of p out.old) }
 {
     if marks {
         return p;
@@ -25,7 +25,7 @@ fn put_whole(out: &mut [u8], room: usize, p: Position, piece: &[u8], marks: bool
 }
 
 fn put_replaced(out: &mut [u8], room: usize, p: Position, marks: bool) -> Position
-    ensures { outputOf result out.new ≡ puts room (pick marks (0 ∷ []) replacement) (outputOf p out.old) }
+    ensures { output_of result out.new ≡ puts room (pick marks (0 ∷ []) replacement) (output_of p out.old) }
 {
     if marks {
         return put_byte(out, room, p, 0);
@@ -35,7 +35,7 @@ fn put_replaced(out: &mut [u8], room: usize, p: Position, marks: bool) -> Positi
 
 // The piece at the head of the bytes; of none, nothing.
 pub fn put_piece(out: &mut [u8], room: usize, p: Position, b: &[u8], marks: bool) -> Written
-    ensures { (result.taken ≡ size_of (piece_of b.now)) × (outputOf result.position out.new ≡ puts room (shownAs marks (piece_of b.now) b.now) (outputOf p out.old)) }
+    ensures { (result.taken ≡ size_of (piece_of b.now)) × (output_of result.position out.new ≡ puts room (shown_as marks (piece_of b.now) b.now) (output_of p out.old)) }
 {
     match utf8::next(b) {
         Piece::End => Written {
@@ -55,7 +55,7 @@ pub fn put_piece(out: &mut [u8], room: usize, p: Position, b: &[u8], marks: bool
 
 // A text, piece by piece.
 pub fn put_pieces(out: &mut [u8], room: usize, p: Position, b: &[u8], marks: bool) -> Position
-    ensures { outputOf result out.new ≡ puts room (writtenAs marks b.now) (outputOf p out.old) }
+    ensures { output_of result out.new ≡ puts room (written_as marks b.now) (output_of p out.old) }
 {
     let mut q = p;
     let mut i = 0;

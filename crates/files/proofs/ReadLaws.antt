@@ -8,187 +8,187 @@ use native.Mathlib.Omega.{arith}
 use lib.ListN.{length, take, drop, drop_of_length-le}
 use lib.Seq.{take-nil, drop-drop, take-add}
 use Rattle.error.specs.Answer.{got}
-use Rattle.error.proofs.Laws.{at-most, above}
+use Rattle.error.proofs.Laws.{at_most_lem, above}
 use Rattle.extents.specs.Verdict.{fine}
-use Rattle.extents.specs.Extents.{Disk, start, end, inOrder, apart, ascending, seek, since, counted, reach, allows, decide}
-use Rattle.extents.proofs.Verdicts.{was-most, was-above, le-or-gt, passed, went}
-use Rattle.extents.proofs.ExtentLaws.{blocks-mono, block-below, decide-stop, decide-goes, seek-takes, seek-stays, Touched, Sound, lies-is, lies_within, allowed-end, allowed-sound, sound-allowed}
+use Rattle.extents.specs.Extents.{Disk, start, end, in_order, apart, ascending, seek, since, counted, reach, allows, decide}
+use Rattle.extents.proofs.Verdicts.{was_most, was_above, le_or_gt, passed, went}
+use Rattle.extents.proofs.ExtentLaws.{blocks_mono, block_below, decide_stop, decide_goes, seek_takes, seek_stays, Touched, Sound, lies_is, lies_within, allowed_end, allowed_sound, sound_allowed}
 use Rattle.records.specs.declared.extent.Extent.{Extent}
-use Rattle.files.specs.Read.{over, byte_at, bytes, readAt, read_all}
-use Rattle.files.proofs.Spans.{span-length, span-part}
+use Rattle.files.specs.Read.{over, byte_at, bytes, read_at, read_all}
+use Rattle.files.proofs.Spans.{span_length, span_part}
 
 -- a part of what can be read can be read
-reach-part : (d : Disk) (e : Extent) (a b c p : ℕ) → 0 < d.block → length d.image ≤ 2 ^ 64 → a < b → b ≤ c → reach d e p c ≡ fine → reach d e a b ≡ fine
+reach_part : (d : Disk) (e : Extent) (a b c p : ℕ) → 0 < d.block → length d.image ≤ 2 ^ 64 → a < b → b ≤ c → reach d e p c ≡ fine → reach d e a b ≡ fine
 unfolding reach
-reach-part d e a b c p pos small h k w =
+reach_part d e a b c p pos small h k w =
     let v = went (counted d e) _ _ w in
     let l = lies_within d _ _ v.1 in
-    let m = mul-le-mul_right d.block (blocks-mono d.block pos b c k) in
-    let n = mul-le-mul_right d.block (block-below d.block pos a b h) in
-    rw v.0 (lies-is d _ _ (omega (arith, pos)) (omega arith))
+    let m = mul-le-mul_right d.block (blocks_mono d.block pos b c k) in
+    let n = mul-le-mul_right d.block (block_below d.block pos a b h) in
+    rw v.0 (lies_is d _ _ (omega (arith, pos)) (omega arith))
 
 module _ (d : Disk) (size off stop : ℕ) (pos : 0 < d.block) (small : length d.image ≤ 2 ^ 64) (inside : stop ≤ size) where
   -- an extent that the whole read allows, every read allows
-  allows-part : (e : Extent) → allows d 0 size e ≡ fine → allows d off stop e ≡ fine
-  allows-part e w = sound-allowed d off stop e (allowed-end d 0 size e w) go
+  allows_part : (e : Extent) → allows d 0 size e ≡ fine → allows d off stop e ≡ fine
+  allows_part e w = sound_allowed d off stop e (allowed_end d 0 size e w) go
     where
       go : Touched off stop e → Sound d off stop e
-      go t = reach-part d e _ _ _ _ pos small (omega (arith, t.some)) (omega arith) (allowed-sound d 0 size e w (record { some = omega (arith, t.some); real = t.real }))
+      go t = reach_part d e _ _ _ _ pos small (omega (arith, t.some)) (omega arith) (allowed_sound d 0 size e w (record { some = omega (arith, t.some); real = t.real }))
 
   -- and so of a list of them
-  decide-part : (es : List Extent) → decide d 0 size es ≡ fine → decide d off stop es ≡ fine
+  decide_part : (es : List Extent) → decide d 0 size es ≡ fine → decide d off stop es ≡ fine
   unfolding decide
-  decide-part [] w = refl
-  decide-part (e ∷ es) w = go (le-or-gt stop e.logical) (decide-part es)
+  decide_part [] w = refl
+  decide_part (e ∷ es) w = go (le_or_gt stop e.logical) (decide_part es)
     where
       go : (stop ≤ e.logical) ⊎ (e.logical < stop) → (decide d 0 size es ≡ fine → decide d off stop es ≡ fine) → decide d off stop (e ∷ es) ≡ fine
-      go (inl h) ih = decide-stop d off stop e es h
+      go (inl h) ih = decide_stop d off stop e es h
       go (inr h) ih =
-          let q = went _ _ _ (sym (decide-goes d 0 size e es (omega arith)) ∙ w) in
-          decide-goes d off stop e es h ∙ rw (allows-part e q.0, ih q.1)
+          let q = went _ _ _ (sym (decide_goes d 0 size e es (omega arith)) ∙ w) in
+          decide_goes d off stop e es h ∙ rw (allows_part e q.0, ih q.1)
 
 -- ---- where a read begins
 
 module _ (d : Disk) (size off : ℕ) (h : off < size) where
   -- what is allowed of all is allowed from any place on
-  seek-allowed : (best es : List Extent) → decide d 0 size best ≡ fine → decide d 0 size es ≡ fine → decide d 0 size (seek off best es) ≡ fine
+  seek_allowed : (best es : List Extent) → decide d 0 size best ≡ fine → decide d 0 size es ≡ fine → decide d 0 size (seek off best es) ≡ fine
   unfolding seek
-  seek-allowed best [] b w = b
-  seek-allowed best (e ∷ es) b w = go (le-or-gt e.logical off) (seek-allowed (e ∷ es) es w)
+  seek_allowed best [] b w = b
+  seek_allowed best (e ∷ es) b w = go (le_or_gt e.logical off) (seek_allowed (e ∷ es) es w)
     where
       go : (e.logical ≤ off) ⊎ (off < e.logical) → (decide d 0 size es ≡ fine → decide d 0 size (seek off (e ∷ es) es) ≡ fine) → decide d 0 size (seek off best (e ∷ es)) ≡ fine
-      go (inl k) ih = rw (seek-takes off best e es k) (ih (went (allows d 0 size e) _ _ (sym (decide-goes d 0 size e es (omega arith)) ∙ w)).1)
-      go (inr k) ih = rw (seek-stays off best e es k) b
+      go (inl k) ih = rw (seek_takes off best e es k) (ih (went (allows d 0 size e) _ _ (sym (decide_goes d 0 size e es (omega arith)) ∙ w)).1)
+      go (inr k) ih = rw (seek_stays off best e es k) b
 
--- what `inOrder` says of the first two
-pub linked : (mark : Extent → ℕ) (at : ℕ) (e f : Extent) (es : List Extent) → inOrder mark at (e ∷ f ∷ es) ≡ fine → (mark e ≤ f.logical) × (inOrder mark (mark e) (f ∷ es) ≡ fine)
-unfolding inOrder
+-- what `in_order` says of the first two
+pub linked : (mark : Extent → ℕ) (at : ℕ) (e f : Extent) (es : List Extent) → in_order mark at (e ∷ f ∷ es) ≡ fine → (mark e ≤ f.logical) × (in_order mark (mark e) (f ∷ es) ≡ fine)
+unfolding in_order
 linked mark at e f es c = let q = passed _ _ _ _ _ c in ((passed _ _ _ _ _ q.1).0, q.1)
 
 -- the whole read passes over extents of no length alone
-skipped : (d : Disk) (size at : ℕ) → 0 < size → (e : Extent) (es : List Extent) → inOrder end at (e ∷ es) ≡ fine
+skipped : (d : Disk) (size at : ℕ) → 0 < size → (e : Extent) (es : List Extent) → in_order end at (e ∷ es) ≡ fine
     → decide d 0 size (seek 0 (e ∷ es) es) ≡ fine → decide d 0 size (e ∷ es) ≡ fine
 unfolding seek
 skipped d size at h e [] c w = w
-skipped d size at h e (f ∷ es) c w = go (linked end at e f es c) (le-or-gt f.logical 0) (skipped d size (end e) h f es)
+skipped d size at h e (f ∷ es) c w = go (linked end at e f es c) (le_or_gt f.logical 0) (skipped d size (end e) h f es)
   where
-    go : (end e ≤ f.logical) × (inOrder end (end e) (f ∷ es) ≡ fine) → (f.logical ≤ 0) ⊎ (0 < f.logical)
-        → (inOrder end (end e) (f ∷ es) ≡ fine → decide d 0 size (seek 0 (f ∷ es) es) ≡ fine → decide d 0 size (f ∷ es) ≡ fine) → decide d 0 size (e ∷ f ∷ es) ≡ fine
+    go : (end e ≤ f.logical) × (in_order end (end e) (f ∷ es) ≡ fine) → (f.logical ≤ 0) ⊎ (0 < f.logical)
+        → (in_order end (end e) (f ∷ es) ≡ fine → decide d 0 size (seek 0 (f ∷ es) es) ≡ fine → decide d 0 size (f ∷ es) ≡ fine) → decide d 0 size (e ∷ f ∷ es) ≡ fine
     go l (inl k) ih =
-        decide-goes d 0 size e (f ∷ es) (omega arith)
-        ∙ rw (sound-allowed d 0 size e (omega arith) (λ t. absurd (omega (arith, t.some))), ih l.1 (rw (seek-takes 0 (e ∷ f ∷ es) f es k) at w))
-    go l (inr k) ih = rw (seek-stays 0 (e ∷ f ∷ es) f es k) at w
+        decide_goes d 0 size e (f ∷ es) (omega arith)
+        ∙ rw (sound_allowed d 0 size e (omega arith) (λ t. absurd (omega (arith, t.some))), ih l.1 (rw (seek_takes 0 (e ∷ f ∷ es) f es k) at w))
+    go l (inr k) ih = rw (seek_stays 0 (e ∷ f ∷ es) f es k) at w
 
 pub unskipped : (d : Disk) (size : ℕ) → 0 < size → (es : List Extent) → apart es ≡ fine → decide d 0 size (since 0 es) ≡ fine → decide d 0 size es ≡ fine
 unfolding seek
 unskipped d size h [] c w = w
-unskipped d size h (e ∷ es) c w = go (le-or-gt e.logical 0)
+unskipped d size h (e ∷ es) c w = go (le_or_gt e.logical 0)
   where
     go : (e.logical ≤ 0) ⊎ (0 < e.logical) → decide d 0 size (e ∷ es) ≡ fine
-    go (inl k) = skipped d size 0 h e es c (rw (seek-takes 0 (e ∷ es) e es k) at w)
-    go (inr k) = rw (seek-stays 0 (e ∷ es) e es k) at w
+    go (inl k) = skipped d size 0 h e es c (rw (seek_takes 0 (e ∷ es) e es k) at w)
+    go (inr k) = rw (seek_stays 0 (e ∷ es) e es k) at w
 
 -- starts ascend where each starts past the end of the one before it
-pub apart-ascend : (at₁ at₂ : ℕ) (es : List Extent) → at₁ ≤ at₂ → inOrder end at₂ es ≡ fine → inOrder start at₁ es ≡ fine
-unfolding inOrder
-apart-ascend at₁ at₂ [] h c = refl
-apart-ascend at₁ at₂ (e ∷ es) h c =
+pub apart_ascend : (at₁ at₂ : ℕ) (es : List Extent) → at₁ ≤ at₂ → in_order end at₂ es ≡ fine → in_order start at₁ es ≡ fine
+unfolding in_order
+apart_ascend at₁ at₂ [] h c = refl
+apart_ascend at₁ at₂ (e ∷ es) h c =
     let q = passed _ _ _ _ _ c in
-    sym (at-most _ _ _ _ _ (omega (arith, q.0)) (sym (apart-ascend e.logical (end e) es (omega arith) q.1)))
+    sym (at_most_lem _ _ _ _ _ (omega (arith, q.0)) (sym (apart_ascend e.logical (end e) es (omega arith) q.1)))
 
 -- ---- the bytes
 
-over-past : (d : Disk) (i : ℕ) (e : Extent) (z : ℕ) → end e ≤ i → over d i e z ≡ z
+over_past : (d : Disk) (i : ℕ) (e : Extent) (z : ℕ) → end e ≤ i → over d i e z ≡ z
 unfolding over
-over-past d i e z h = sym (at-most _ _ _ _ _ (omega arith) (at-most _ _ _ _ _ h refl))
+over_past d i e z h = sym (at_most_lem _ _ _ _ _ (omega arith) (at_most_lem _ _ _ _ _ h refl))
 
 module _ (d : Disk) (off i : ℕ) (h : off ≤ i) where
-  seek-byte : (at : ℕ) (e : Extent) (es : List Extent) (z : ℕ) → inOrder end at (e ∷ es) ≡ fine → byte_at d i (seek off (e ∷ es) es) z ≡ byte_at d i (e ∷ es) z
+  seek_byte : (at : ℕ) (e : Extent) (es : List Extent) (z : ℕ) → in_order end at (e ∷ es) ≡ fine → byte_at d i (seek off (e ∷ es) es) z ≡ byte_at d i (e ∷ es) z
   unfolding seek byte_at
-  seek-byte at e [] z c = refl
-  seek-byte at e (f ∷ es) z c = go (linked end at e f es c) (le-or-gt f.logical off) (seek-byte (end e) f es z)
+  seek_byte at e [] z c = refl
+  seek_byte at e (f ∷ es) z c = go (linked end at e f es c) (le_or_gt f.logical off) (seek_byte (end e) f es z)
     where
-      go : (end e ≤ f.logical) × (inOrder end (end e) (f ∷ es) ≡ fine) → (f.logical ≤ off) ⊎ (off < f.logical)
-          → (inOrder end (end e) (f ∷ es) ≡ fine → byte_at d i (seek off (f ∷ es) es) z ≡ byte_at d i (f ∷ es) z) → byte_at d i (seek off (e ∷ f ∷ es) (f ∷ es)) z ≡ byte_at d i (e ∷ f ∷ es) z
-      go l (inl k) ih = rw (seek-takes off (e ∷ f ∷ es) f es k, over-past d i e z (omega arith)) (ih l.1)
-      go l (inr k) ih = rw (seek-stays off (e ∷ f ∷ es) f es k)
+      go : (end e ≤ f.logical) × (in_order end (end e) (f ∷ es) ≡ fine) → (f.logical ≤ off) ⊎ (off < f.logical)
+          → (in_order end (end e) (f ∷ es) ≡ fine → byte_at d i (seek off (f ∷ es) es) z ≡ byte_at d i (f ∷ es) z) → byte_at d i (seek off (e ∷ f ∷ es) (f ∷ es)) z ≡ byte_at d i (e ∷ f ∷ es) z
+      go l (inl k) ih = rw (seek_takes off (e ∷ f ∷ es) f es k, over_past d i e z (omega arith)) (ih l.1)
+      go l (inr k) ih = rw (seek_stays off (e ∷ f ∷ es) f es k)
 
   -- no byte from off on depends on an extent before the last that starts at or before off
-  pub since-byte : (es : List Extent) → apart es ≡ fine → byte_at d i (since off es) 0 ≡ byte_at d i es 0
+  pub since_byte : (es : List Extent) → apart es ≡ fine → byte_at d i (since off es) 0 ≡ byte_at d i es 0
   unfolding seek
-  since-byte [] c = refl
-  since-byte (e ∷ es) c = go (le-or-gt e.logical off)
+  since_byte [] c = refl
+  since_byte (e ∷ es) c = go (le_or_gt e.logical off)
     where
       go : (e.logical ≤ off) ⊎ (off < e.logical) → byte_at d i (since off (e ∷ es)) 0 ≡ byte_at d i (e ∷ es) 0
-      go (inl k) = rw (seek-takes off (e ∷ es) e es k) (seek-byte 0 e es 0 c)
-      go (inr k) = rw (seek-stays off (e ∷ es) e es k)
+      go (inl k) = rw (seek_takes off (e ∷ es) e es k) (seek_byte 0 e es 0 c)
+      go (inr k) = rw (seek_stays off (e ∷ es) e es k)
 
 -- ---- reads
 
 module _ (d : Disk) (size : ℕ) (es : List Extent) (off len : ℕ) where
-  pub read_past : ascending es ≡ fine → size ≤ off → readAt d size es off len ≡ got []
-  unfolding readAt
-  read_past c h = rw c (sym (at-most _ _ _ _ _ h refl))
+  pub read_past : ascending es ≡ fine → size ≤ off → read_at d size es off len ≡ got []
+  unfolding read_at
+  read_past c h = rw c (sym (at_most_lem _ _ _ _ _ h refl))
 
   pub read_is : ascending es ≡ fine → off < size → decide d off (off + min len (size - off)) (since off es) ≡ fine
-      → readAt d size es off len ≡ got (bytes d es off (min len (size - off)))
-  unfolding readAt
+      → read_at d size es off len ≡ got (bytes d es off (min len (size - off)))
+  unfolding read_at
   read_is c h w = rw c (sym (above _ _ _ _ _ h (rw w)))
 
-  pub read-was : (bs : List ℕ) → off < size → readAt d size es off len ≡ got bs
+  pub read_was : (bs : List ℕ) → off < size → read_at d size es off len ≡ got bs
       → (decide d off (off + min len (size - off)) (since off es) ≡ fine) × (got (bytes d es off (min len (size - off))) ≡ got bs)
-  unfolding readAt
-  read-was bs h e = went _ _ _ (was-above _ _ (got []) _ _ h (went (ascending es) _ _ e).1)
+  unfolding read_at
+  read_was bs h e = went _ _ _ (was_above _ _ (got []) _ _ h (went (ascending es) _ _ e).1)
 
   -- the answer is exactly as long as what there is
-  pub read_length : (bs : List ℕ) → readAt d size es off len ≡ got bs → length bs ≡ min len (size - off)
-  unfolding readAt bytes
-  read_length bs e = go (le-or-gt size off)
+  pub read_length : (bs : List ℕ) → read_at d size es off len ≡ got bs → length bs ≡ min len (size - off)
+  unfolding read_at bytes
+  read_length bs e = go (le_or_gt size off)
     where
       go : (size ≤ off) ⊎ (off < size) → length bs ≡ min len (size - off)
       go (inl h) =
-          let q : bs ≡ [] = cc (was-most _ _ _ _ _ h (went (ascending es) _ _ e).1) in
+          let q : bs ≡ [] = cc (was_most _ _ _ _ _ h (went (ascending es) _ _ e).1) in
           rw q (omega arith)
       go (inr h) =
-          let q : bs ≡ bytes d es off (min len (size - off)) = cc (read-was bs h e).1 in
-          rw q (span-length _ _ _)
+          let q : bs ≡ bytes d es off (min len (size - off)) = cc (read_was bs h e).1 in
+          rw q (span_length _ _ _)
 
 module _ (d : Disk) (size : ℕ) (es : List Extent) (bs : List ℕ) (pos : 0 < d.block) (small : length d.image ≤ 2 ^ 64) (all : read_all d size es ≡ got bs) where
-  all-length : length bs ≡ size
+  all_length : length bs ≡ size
   unfolding read_all
-  all-length = read_length d size es 0 size bs (went (apart es) _ _ all).1 ∙ omega arith
+  all_length = read_length d size es 0 size bs (went (apart es) _ _ all).1 ∙ omega arith
 
   -- THE LAW
-  pub read-part : (off len : ℕ) → readAt d size es off len ≡ got (take len (drop off bs))
+  pub read_part : (off len : ℕ) → read_at d size es off len ≡ got (take len (drop off bs))
   unfolding read_all bytes
-  read-part off len = go (le-or-gt size off)
+  read_part off len = go (le_or_gt size off)
     where
-      a : (apart es ≡ fine) × (readAt d size es 0 size ≡ got bs)
+      a : (apart es ≡ fine) × (read_at d size es 0 size ≡ got bs)
       a = went (apart es) _ _ all
 
       n : ℕ
       n = min len (size - off)
 
       up : ascending es ≡ fine
-      up = apart-ascend 0 0 es (omega arith) a.0
+      up = apart_ascend 0 0 es (omega arith) a.0
 
-      go : (size ≤ off) ⊎ (off < size) → readAt d size es off len ≡ got (take len (drop off bs))
+      go : (size ≤ off) ⊎ (off < size) → read_at d size es off len ≡ got (take len (drop off bs))
       go (inl h) =
-          let q : drop off bs ≡ [] = drop_of_length-le bs {i = off} (omega (arith, all-length)) in
+          let q : drop off bs ≡ [] = drop_of_length-le bs {i = off} (omega (arith, all_length)) in
           read_past d size es off len up h ∙ rw (q, take-nil)
       go (inr h) =
           let m : min size (size - 0) ≡ size = omega arith in
-          let w = read-was d size es 0 size bs (omega arith) a.1 in
+          let w = read_was d size es 0 size bs (omega arith) a.1 in
           let v : decide d 0 size es ≡ fine = unskipped d size (omega arith) es a.0 (rw (m, zero-add) at w.0) in
           let q : bs ≡ bytes d es 0 size = cc (rw m at w.1) in
           read_is d size es off len up h
-          (decide-part d size off (off + n) pos small (omega arith) (since off es) (seek-allowed d size off h es es v v))
-          ∙ rw q (ap got (sym (span-part _ _ size off len
-          (λ i b. since-byte d 0 i (omega arith) es a.0 ∙ sym (since-byte d off i b es a.0)))))
+          (decide_part d size off (off + n) pos small (omega arith) (since off es) (seek_allowed d size off h es es v v))
+          ∙ rw q (ap got (sym (span_part _ _ size off len
+          (λ i b. since_byte d 0 i (omega arith) es a.0 ∙ sym (since_byte d off i b es a.0)))))
 
   -- two reads side by side are one
-  pub read-split : (off m n : ℕ) (xs ys : List ℕ) → readAt d size es off m ≡ got xs → readAt d size es (off + m) n ≡ got ys → readAt d size es off (m + n) ≡ got (xs ++ ys)
-  read-split off m n xs ys p q =
-      let x : xs ≡ take m (drop off bs) = cc (read-part off m) in
-      let y : ys ≡ take n (drop (off + m) bs) = cc (read-part (off + m) n) in
-      read-part off (m + n) ∙ rw (x, y, ← drop-drop m off bs, take-add m n (drop off bs))
+  pub read_split : (off m n : ℕ) (xs ys : List ℕ) → read_at d size es off m ≡ got xs → read_at d size es (off + m) n ≡ got ys → read_at d size es off (m + n) ≡ got (xs ++ ys)
+  read_split off m n xs ys p q =
+      let x : xs ≡ take m (drop off bs) = cc (read_part off m) in
+      let y : ys ≡ take n (drop (off + m) bs) = cc (read_part (off + m) n) in
+      read_part off (m + n) ∙ rw (x, y, ← drop-drop m off bs, take-add m n (drop off bs))

@@ -1,17 +1,17 @@
--- The shape of the copying pass. A buyer may pass over this file: `lay` over zeros is what `bytes` says (`lay-start`, proofs/CopyLaws.antt), and `readOver` over
--- the extents of a file is what `readFile` says (`file-read`, proofs/FileLaws.antt).
+-- The shape of the copying pass. A buyer may pass over this file: `lay` over zeros is what `bytes` says (`lay_start`, proofs/CopyLaws.antt), and `read_over` over
+-- the extents of a file is what `read_file` says (`file_read`, proofs/FileLaws.antt).
 use Rattle.std.specs.Prelude.{ℕ, ◌+◌, ◌-◌, ◌≡◌, List, length, get_or, drop}
 use Rattle.std.proofs.Math.Seq.{paste}
-use Rattle.error.specs.Answer.{ifLe}
+use Rattle.error.specs.Answer.{if_le}
 use Rattle.lookup.specs.Counted.{Counted, after, onto}
-use Rattle.btree.specs.Scan.{scanOf}
+use Rattle.btree.specs.Scan.{scan_of}
 use Rattle.btree.specs.declared.entries.Search.{Search}
-use Rattle.records.specs.Extent.{extentAt}
+use Rattle.records.specs.Extent.{extent_at}
 use Rattle.records.specs.declared.extent.Extent.{Extent}
 use Rattle.lists.specs.Lists.{list_of}
 use Rattle.extents.specs.Verdict.{fine}
-use Rattle.extents.specs.Extents.{Disk, diskOf, ascending, decide}
-use Rattle.files.specs.Read.{byte_at, span, readAt}
+use Rattle.extents.specs.Extents.{Disk, disk_of, ascending, decide}
+use Rattle.files.specs.Read.{byte_at, span, read_at}
 
 -- the buffer b, which holds the bytes of the file from off on, once es are copied over it
 unfoldable pub lay : Disk → ℕ → List Extent → List ℕ → List ℕ
@@ -27,9 +27,9 @@ pub record Ready (d : Disk) (off stop : ℕ) (es : List Extent) : Type 0 where
   pub rising : ascending es ≡ fine
 
 -- a read over the extents that a search gives, s nodes having been gone through: "all are read" first (fs.rs, `read_extents_at`)
-unfoldable pub readOver : List ℕ → Search → ℕ → ℕ → ℕ → ℕ → Counted (List ℕ)
-readOver b q size off len s = onto (list_of (extentAt q.keys.reader b) (scanOf b q s)) λ es t. after t (readAt (diskOf q.keys.reader b) size es off len)
+unfoldable pub read_over : List ℕ → Search → ℕ → ℕ → ℕ → ℕ → Counted (List ℕ)
+read_over b q size off len s = onto (list_of (extent_at q.keys.reader b) (scan_of b q s)) λ es t. after t (read_at (disk_of q.keys.reader b) size es off len)
 
 -- where a read of n bytes from off on stops: nothing is looked at where off is at or past the size
-abbrev pub stopOf : ℕ → ℕ → ℕ → ℕ
-stopOf size off n = ifLe size off 0 (off + n)
+abbrev pub stop_of : ℕ → ℕ → ℕ → ℕ
+stop_of size off n = if_le size off 0 (off + n)

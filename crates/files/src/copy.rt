@@ -1,10 +1,10 @@
 // An extent's bytes, copied into the buffer.
 ghost use Rattle.std.specs.Prelude.{◌≡◌, [], ◌∷◌, ◌+◌, ◌^◌, ◌≤◌, ◌<◌, length, replicate};
 ghost use Rattle.cursor.specs.Left.{run_at};
-ghost use Rattle.records.specs.Extent.{extentAt};
+ghost use Rattle.records.specs.Extent.{extent_at};
 ghost use Rattle.lists.specs.Inner.{readable};
 ghost use Rattle.extents.specs.Verdict.{fine};
-ghost use Rattle.extents.specs.Extents.{diskOf, allows};
+ghost use Rattle.extents.specs.Extents.{disk_of, allows};
 ghost use Rattle.files.specs.Inner.{lay, pasted, Ready};
 
 use btree::Search;
@@ -28,8 +28,8 @@ fn paste_at(image: &[u8], out: &mut [u8], at: usize, from: usize, n: usize)
 
 // An extent that was allowed, laid over the bytes of the file from off on.
 pub fn lay_at(image: &[u8], reader: Reader, off: u64, out: &mut [u8], e: Extent)
-    requires { (off + length out.old < 2 ^ 64) × (allows (diskOf reader image.now) off (off + length out.old) e ≡ fine) }
-    ensures { out.new ≡ lay (diskOf reader image.now) off (e ∷ []) out.old }
+    requires { (off + length out.old < 2 ^ 64) × (allows (disk_of reader image.now) off (off + length out.old) e ≡ fine) }
+    ensures { out.new ≡ lay (disk_of reader image.now) off (e ∷ []) out.old }
 {
     let stop = off + out.len() as u64;
     let a = larger(off, e.logical);
@@ -52,8 +52,8 @@ pub fn lay_at(image: &[u8], reader: Reader, off: u64, out: &mut [u8], e: Extent)
 
 // The bytes of the file from off on: zeros, and over them the extents from an entry of a step on, which were decided upon.
 pub fn fill(image: &[u8], q: Search, off: u64, out: &mut [u8], kept: Step, from: u32)
-    requires { (off + length out.old < 2 ^ 64) × Ready (diskOf q.keys.reader image.now) off (off + length out.old) (readable (extentAt q.keys.reader image.now) (run_at image.now q kept from)) }
-    ensures { out.new ≡ lay (diskOf q.keys.reader image.now) off (readable (extentAt q.keys.reader image.now) (run_at image.now q kept from)) (replicate (length out.old) 0) }
+    requires { (off + length out.old < 2 ^ 64) × Ready (disk_of q.keys.reader image.now) off (off + length out.old) (readable (extent_at q.keys.reader image.now) (run_at image.now q kept from)) }
+    ensures { out.new ≡ lay (disk_of q.keys.reader image.now) off (readable (extent_at q.keys.reader image.now) (run_at image.now q kept from)) (replicate (length out.old) 0) }
 {
     clear(out);
     let keys = q.keys;

@@ -1,12 +1,12 @@
 // A part of a file (fs.rs, `read_at`).
 ghost use Rattle.std.specs.Prelude.{◌≡◌, ◌+◌, ◌-◌, ◌≤◌, min, length};
 ghost use Rattle.calls.specs.Filled.{answered};
-ghost use Rattle.files.specs.File.{size_of, readFile, readTold};
-ghost use Rattle.files.specs.Inner.{stopOf, readOver};
+ghost use Rattle.files.specs.File.{size_of, read_file, read_told};
+ghost use Rattle.files.specs.Inner.{stop_of, read_over};
 
 use crate::copy::fill;
 use btree::Search;
-use bytes::Number;
+use byte_fields::Number;
 use error::Refusal;
 use extents::{Ruling, judge, smaller};
 use inode_record::{Inode, StreamField};
@@ -43,7 +43,7 @@ fn wanted(size: u64, off: u64, len: u64) -> u64
 
 fn stop_of(size: u64, off: u64, n: u64) -> u64
     requires { n ≤ size - off }
-    ensures { result ≡ stopOf size off n }
+    ensures { result ≡ stop_of size off n }
 {
     if size <= off {
         return 0;
@@ -53,7 +53,7 @@ fn stop_of(size: u64, off: u64, n: u64) -> u64
 
 // All is decided before the buffer is touched.
 fn read_over(image: &[u8], q: Search, size: u64, off: u64, out: &mut [u8], nodes: u64) -> FileRead
-    ensures { readTold result out.new ≡ answered (readOver image.now q size off (length out.old) nodes) out.old }
+    ensures { read_told result out.new ≡ answered (read_over image.now q size off (length out.old) nodes) out.old }
 {
     let n = wanted(size, off, out.len() as u64);
     let j = judge(image, q, off, stop_of(size, off, n), nodes);
@@ -90,7 +90,7 @@ pub fn read_at(
     out: &mut [u8],
     nodes: u64,
 ) -> FileRead
-    ensures { readTold result out.new ≡ answered (readFile image.now v inode offset (length out.old) nodes) out.old }
+    ensures { read_told result out.new ≡ answered (read_file image.now v inode offset (length out.old) nodes) out.old }
 {
     let owner = inode.owner;
     if owner.bsd_flags / 32 % 2 == 1 {

@@ -6,157 +6,157 @@ use borrow.Author.Rules.{rules}
 use Rattle.error.specs.Answer.{Answer, got, no}
 use Rattle.error.specs.declared.Refusal.{Refusal}
 use Rattle.error.proofs.Laws.{same, other}
-use Rattle.bytes.specs.declared.Span.{Span}
+use Rattle.byte_fields.specs.declared.Span.{Span}
 use Rattle.obj.specs.declared.reader.Reader.{Reader}
 use Rattle.lookup.specs.Counted.{Counted, after, onto}
 use Rattle.utf8.specs.Text.{lossy}
 use Rattle.text.specs.Output.{Output, puts}
 use Rattle.text.specs.Words.{ascii, pairs}
-use Rattle.text.proofs.Digits.{pairs-append}
-use Rattle.text.proofs.Writing.{puts-append}
+use Rattle.text.proofs.Digits.{pairs_append}
+use Rattle.text.proofs.Writing.{puts_append}
 use Rattle.volume.specs.declared.Volume.{Volume}
-use Rattle.records.specs.Attribute.{attributeName, attributeBytes}
+use Rattle.records.specs.Attribute.{attribute_name, attribute_bytes}
 use Rattle.records.specs.declared.attribute.Attribute.{Attribute}
 use Rattle.records.specs.declared.attribute.AttributeData.{AttributeData}
 use Rattle.records.specs.declared.attribute.AttributeData.TheVariants.{Embedded, Stream}
 use Rattle.records.specs.declared.attribute.StreamData.{StreamData}
 use Rattle.inode_record.specs.declared.inode.Inode.{Inode}
-use Rattle.files.specs.File.{size_of, readPlain}
+use Rattle.files.specs.File.{size_of, read_plain}
 use Rattle.inode_record.specs.Inode.{compressed}
 use Rattle.extents.specs.Ruling.{ruled}
 use Rattle.extents.specs.declared.verdict.Ruling.{Ruling}
-use Rattle.streams.specs.Streams.{settledTold, settled_of, streamOf}
-use Rattle.streams.specs.Inner.{runBytes, streamBytes}
+use Rattle.streams.specs.Streams.{settled_told, settled_of, stream_of}
+use Rattle.streams.specs.Inner.{run_bytes, stream_bytes}
 use Rattle.streams.specs.declared.settle.Settled.{Settled}
-use Rattle.streams.proofs.Contents.{stream-settled}
-use Rattle.contents.specs.Inner.{wholeFrom}
-use Rattle.contents.proofs.Laws.{whole-begun}
-use Rattle.btree.specs.Scan.{Run, scanOf}
+use Rattle.streams.proofs.Contents.{stream_settled}
+use Rattle.contents.specs.Inner.{whole_from}
+use Rattle.contents.proofs.Laws.{whole_begun}
+use Rattle.btree.specs.Scan.{Run, scan_of}
 use Rattle.node.specs.declared.place.Place.{Place}
 use Rattle.records.specs.declared.extent.Extent.{Extent}
 use Rattle.btree.specs.declared.entries.Search.{Search}
 use Rattle.cursor.specs.Left.{run_at, Begins}
 use Rattle.cursor.specs.declared.steps.Step.{Step}
-use Rattle.records.specs.Extent.{extentAt}
-use Rattle.lists.specs.Lists.{searchOf}
-use Rattle.extents.specs.Extents.{Disk, diskOf}
-use Rattle.contents.proofs.Plain.{plain-settled}
-use Rattle.links.specs.Link.{contentsBy}
-use Rattle.lines.specs.Shown.{attributeShown, formShown, plain}
+use Rattle.records.specs.Extent.{extent_at}
+use Rattle.lists.specs.Lists.{search_of}
+use Rattle.extents.specs.Extents.{Disk, disk_of}
+use Rattle.contents.proofs.Plain.{plain_settled}
+use Rattle.links.specs.Link.{contents_by}
+use Rattle.lines.specs.Shown.{attribute_shown, form_shown, plain}
 use Rattle.lines.specs.Shown as shown
-use Rattle.lines.specs.Lines.{attributeLine, contentsLine}
-use Rattle.lines.specs.Inner.{attributeHead}
-use Rattle.lines.proofs.After.{attribute-texts}
+use Rattle.lines.specs.Lines.{attribute_line, contents_line}
+use Rattle.lines.specs.Inner.{attribute_head}
+use Rattle.lines.proofs.After.{attribute_texts}
 use Rattle.calls.specs.declared.Progress.{Progress}
-use Rattle.text.specs.Output.{outputOf}
+use Rattle.text.specs.Output.{output_of}
 use Rattle.text.specs.declared.Position.TheVariants.{No}
-use Rattle.forms.specs.Course.{Course, writes, readings, attributeCourse, dataCourse}
-use Rattle.forms.specs.Inner.{Stand, standOf, go, reads, streamCourse, plainCourse}
-use Rattle.forms.proofs.Going.{go-writes, read-got, reads_none, stays-no}
-use Rattle.forms.proofs.After.{settled-go}
+use Rattle.forms.specs.Course.{Course, writes, readings, attribute_course, data_course}
+use Rattle.forms.specs.Inner.{Stand, stand_of, go, reads, stream_course, plain_course}
+use Rattle.forms.proofs.Going.{go_writes, read_got, reads_none, stays_no}
+use Rattle.forms.proofs.After.{settled_go}
 
 -- a line with contents that are written piece by piece
-pub streamed-line : (room : ℕ) (o h x z : Output) (r : Reader) (b : List ℕ) (a : Attribute) (c : List ℕ) → h ≡ puts room (attributeHead a.flags (lossy (attributeName r b a)) (formShown a.contents) []) o
-    → x ≡ puts room (pairs c []) h → z ≡ puts room (ascii ")\n" []) x → z ≡ puts room (attributeLine (attributeShown r b a c) []) o
-unfolding attributeShown
-streamed-line room o h x z r b a c p q e =
-    e ∙ rw (q, p, ← puts-append room (pairs c []) (ascii ")\n" []) _, ← puts-append room (attributeHead a.flags (lossy (attributeName r b a)) (formShown a.contents) []) _ o, attribute-texts (attributeShown r b a c))
+pub streamed_line : (room : ℕ) (o h x z : Output) (r : Reader) (b : List ℕ) (a : Attribute) (c : List ℕ) → h ≡ puts room (attribute_head a.flags (lossy (attribute_name r b a)) (form_shown a.contents) []) o
+    → x ≡ puts room (pairs c []) h → z ≡ puts room (ascii ")\n" []) x → z ≡ puts room (attribute_line (attribute_shown r b a c) []) o
+unfolding attribute_shown
+streamed_line room o h x z r b a c p q e =
+    e ∙ rw (q, p, ← puts_append room (pairs c []) (ascii ")\n" []) _, ← puts_append room (attribute_head a.flags (lossy (attribute_name r b a)) (form_shown a.contents) []) _ o, attribute_texts (attribute_shown r b a c))
 
-data-texts : (c : List ℕ) → (ascii "(data x" []) ++ (pairs c [] ++ (ascii ")\n" [])) ≡ contentsLine (plain c) []
-unfolding contentsLine
-data-texts c = ap (λ (t : List ℕ). ascii "(data x" t) (sym (pairs-append c [] (ascii ")\n" [])))
+data_texts : (c : List ℕ) → (ascii "(data x" []) ++ (pairs c [] ++ (ascii ")\n" [])) ≡ contents_line (plain c) []
+unfolding contents_line
+data_texts c = ap (λ (t : List ℕ). ascii "(data x" t) (sym (pairs_append c [] (ascii ")\n" [])))
 
-bytes-line : (room : ℕ) (o h x z : Output) (c : List ℕ) → h ≡ puts room (ascii "(data x" []) o → x ≡ puts room (pairs c []) h → z ≡ puts room (ascii ")\n" []) x
-    → z ≡ puts room (contentsLine (plain c) []) o
-bytes-line room o h x z c p q e =
-    e ∙ rw (q, p, ← puts-append room (pairs c []) (ascii ")\n" []) _, ← puts-append room (ascii "(data x" []) _ o, data-texts c)
+bytes_line : (room : ℕ) (o h x z : Output) (c : List ℕ) → h ≡ puts room (ascii "(data x" []) o → x ≡ puts room (pairs c []) h → z ≡ puts room (ascii ")\n" []) x
+    → z ≡ puts room (contents_line (plain c) []) o
+bytes_line room o h x z c p q e =
+    e ∙ rw (q, p, ← puts_append room (pairs c []) (ascii ")\n" []) _, ← puts_append room (ascii "(data x" []) _ o, data_texts c)
 
-pub file-line : (room : ℕ) (g : Place → Answer Extent) (d : Disk) (r : Run) (i : Inode) (size : ℕ) (o h x z : Output) → size ≡ size_of i → h ≡ puts room (ascii "(data x" []) o
-    → x ≡ puts room (pairs (runBytes g d size 0 r) []) h → z ≡ puts room (ascii ")\n" []) x → z ≡ puts room (contentsLine (plain (runBytes g d (size_of i) 0 r)) []) o
-file-line room g d r i size o h x z k p q e =
-    bytes-line room o h x z (runBytes g d size 0 r) p q e ∙ ap (λ (n : ℕ). puts room (contentsLine (plain (runBytes g d n 0 r)) []) o) k
+pub file_line : (room : ℕ) (g : Place → Answer Extent) (d : Disk) (r : Run) (i : Inode) (size : ℕ) (o h x z : Output) → size ≡ size_of i → h ≡ puts room (ascii "(data x" []) o
+    → x ≡ puts room (pairs (run_bytes g d size 0 r) []) h → z ≡ puts room (ascii ")\n" []) x → z ≡ puts room (contents_line (plain (run_bytes g d (size_of i) 0 r)) []) o
+file_line room g d r i size o h x z k p q e =
+    bytes_line room o h x z (run_bytes g d size 0 r) p q e ∙ ap (λ (n : ℕ). puts room (contents_line (plain (run_bytes g d n 0 r)) []) o) k
 
-pub packed-line : (room : ℕ) (o z : Output) → z ≡ puts room (ascii "(packed)\n" []) o → z ≡ puts room (contentsLine shown.packed []) o
-unfolding contentsLine
-packed-line room o z h = h
+pub packed_line : (room : ℕ) (o z : Output) → z ≡ puts room (ascii "(packed)\n" []) o → z ≡ puts room (contents_line shown.packed []) o
+unfolding contents_line
+packed_line room o z h = h
 
 -- where a file's extents begin
-pub own-extents : (b : List ℕ) (v : Volume) (n m k : ℕ) (t : Step) → n ≡ m → Begins b (searchOf v m k) t (scanOf b (searchOf v m k) 0) → Begins b (searchOf v n k) t (scanOf b (searchOf v n k) 0)
-own-extents b v n m k t e g = rw e g
+pub own_extents : (b : List ℕ) (v : Volume) (n m k : ℕ) (t : Step) → n ≡ m → Begins b (search_of v m k) t (scan_of b (search_of v m k) 0) → Begins b (search_of v n k) t (scan_of b (search_of v n k) 0)
+own_extents b v n m k t e g = rw e g
 
-pub other-extents : (b : List ℕ) (v : Volume) (n k : ℕ) (q : Search) (t : Step) → q ≡ searchOf v n k → Begins b q t (scanOf b q 0) → Begins b (searchOf v n k) t (scanOf b (searchOf v n k) 0)
-other-extents b v n k q t e g = rw e at g
+pub other_extents : (b : List ℕ) (v : Volume) (n k : ℕ) (q : Search) (t : Step) → q ≡ search_of v n k → Begins b q t (scan_of b q 0) → Begins b (search_of v n k) t (scan_of b (search_of v n k) 0)
+other_extents b v n k q t e g = rw e at g
 
 -- after a reading that was settled, the line of what is read
-module _ (room : ℕ) (s : Settled) (p q : Progress) (l : List ℕ) (k : (m : List ℕ) → standOf q m ≡ reads (settledTold s) (standOf p m)) where
-  module _ (c : Counted (List ℕ)) (t : List ℕ → List ℕ) (y : List ℕ) (e : c ≡ (onto (settledTold s) λ u n. after n (got y))) where
-    after-reading : go room (writes (t y)) (standOf q l) ≡ go room (readings c λ d. writes (t d)) (standOf p l)
-    after-reading = ap (go room (writes (t y))) (k l) ∙ sym (settled-go room c (λ d. writes (t d)) y s (standOf p l) e)
+module _ (room : ℕ) (s : Settled) (p q : Progress) (l : List ℕ) (k : (m : List ℕ) → stand_of q m ≡ reads (settled_told s) (stand_of p m)) where
+  module _ (c : Counted (List ℕ)) (t : List ℕ → List ℕ) (y : List ℕ) (e : c ≡ (onto (settled_told s) λ u n. after n (got y))) where
+    after_reading : go room (writes (t y)) (stand_of q l) ≡ go room (readings c λ d. writes (t d)) (stand_of p l)
+    after_reading = ap (go room (writes (t y))) (k l) ∙ sym (settled_go room c (λ d. writes (t d)) y s (stand_of p l) e)
 
-    line-stopped : (w : Refusal) → q.at ≡ No w → standOf q l ≡ go room (readings c λ d. writes (t d)) (standOf p l)
-    line-stopped w x = stays-no q room (writes (t y)) w l x ∙ after-reading
+    line_stopped : (w : Refusal) → q.at ≡ No w → stand_of q l ≡ go room (readings c λ d. writes (t d)) (stand_of p l)
+    line_stopped w x = stays_no q room (writes (t y)) w l x ∙ after_reading
 
-    line-written : (z : Output) → z ≡ puts room (t y) (outputOf q.at l) → ◌≡◌ {A = Stand} (record { output = z; nodes = q.nodes }) (go room (readings c λ d. writes (t d)) (standOf p l))
-    line-written z h = go-writes room (t y) (standOf q l) z h ∙ after-reading
+    line_written : (z : Output) → z ≡ puts room (t y) (output_of q.at l) → ◌≡◌ {A = Stand} (record { output = z; nodes = q.nodes }) (go room (readings c λ d. writes (t d)) (stand_of p l))
+    line_written z h = go_writes room (t y) (stand_of q l) z h ∙ after_reading
 
-  module _ (b : List ℕ) (v : Volume) (a : Attribute) (d : StreamData) (h : settledTold s ≡ settled_of b v d.object d.size 0) where
-    by-ruling : streamOf b v d.object d.size 0 ≡ (onto (settledTold s) λ u t. after t (got (streamBytes b v d.object d.size 0)))
-    by-ruling = stream-settled b v d.object d.size 0 ∙ ap (λ (c : Counted (Unit {0})). onto c λ u t. after t (got (streamBytes b v d.object d.size 0))) (sym h)
+  module _ (b : List ℕ) (v : Volume) (a : Attribute) (d : StreamData) (h : settled_told s ≡ settled_of b v d.object d.size 0) where
+    by_ruling : stream_of b v d.object d.size 0 ≡ (onto (settled_told s) λ u t. after t (got (stream_bytes b v d.object d.size 0)))
+    by_ruling = stream_settled b v d.object d.size 0 ∙ ap (λ (c : Counted (Unit {0})). onto c λ u t. after t (got (stream_bytes b v d.object d.size 0))) (sym h)
 
-    pub stream-stopped : (w : Refusal) → q.at ≡ No w → standOf q l ≡ go room (streamCourse b v a d) (standOf p l)
-    unfolding streamCourse
-    stream-stopped = line-stopped _ (λ c. attributeLine (attributeShown v.reader b a c) []) _ by-ruling
+    pub stream_stopped : (w : Refusal) → q.at ≡ No w → stand_of q l ≡ go room (stream_course b v a d) (stand_of p l)
+    unfolding stream_course
+    stream_stopped = line_stopped _ (λ c. attribute_line (attribute_shown v.reader b a c) []) _ by_ruling
 
-    pub stream-written : (z : Output) → z ≡ puts room (attributeLine (attributeShown v.reader b a (streamBytes b v d.object d.size 0)) []) (outputOf q.at l)
-        → ◌≡◌ {A = Stand} (record { output = z; nodes = q.nodes }) (go room (streamCourse b v a d) (standOf p l))
-    unfolding streamCourse
-    stream-written = line-written _ (λ c. attributeLine (attributeShown v.reader b a c) []) _ by-ruling
+    pub stream_written : (z : Output) → z ≡ puts room (attribute_line (attribute_shown v.reader b a (stream_bytes b v d.object d.size 0)) []) (output_of q.at l)
+        → ◌≡◌ {A = Stand} (record { output = z; nodes = q.nodes }) (go room (stream_course b v a d) (stand_of p l))
+    unfolding stream_course
+    stream_written = line_written _ (λ c. attribute_line (attribute_shown v.reader b a c) []) _ by_ruling
 
   -- the file's extents are those from a step on
-  module _ (b : List ℕ) (v : Volume) (i : Inode) (t : Step) (g : Begins b (searchOf v i.ids.private_id 8) t (scanOf b (searchOf v i.ids.private_id 8) 0))
-      (h : settledTold s ≡ wholeFrom b v i (run_at b (searchOf v i.ids.private_id 8) t t.from)) where
-    whole-ruling : readPlain b v i 0 ≡ (onto (settledTold s) λ u t. after t (got (streamBytes b v i.ids.private_id (size_of i) 0)))
-    whole-ruling = plain-settled b v i 0 ∙ ap (λ (c : Counted (Unit {0})). onto c λ u t. after t (got (streamBytes b v i.ids.private_id (size_of i) 0))) (sym (whole-begun b v i 0 (searchOf v i.ids.private_id 8) t s refl g h))
+  module _ (b : List ℕ) (v : Volume) (i : Inode) (t : Step) (g : Begins b (search_of v i.ids.private_id 8) t (scan_of b (search_of v i.ids.private_id 8) 0))
+      (h : settled_told s ≡ whole_from b v i (run_at b (search_of v i.ids.private_id 8) t t.from)) where
+    whole_ruling : read_plain b v i 0 ≡ (onto (settled_told s) λ u t. after t (got (stream_bytes b v i.ids.private_id (size_of i) 0)))
+    whole_ruling = plain_settled b v i 0 ∙ ap (λ (c : Counted (Unit {0})). onto c λ u t. after t (got (stream_bytes b v i.ids.private_id (size_of i) 0))) (sym (whole_begun b v i 0 (search_of v i.ids.private_id 8) t s refl g h))
 
-    pub plain-stopped : (w : Refusal) → q.at ≡ No w → standOf q l ≡ go room (plainCourse b v i) (standOf p l)
-    unfolding plainCourse
-    plain-stopped = line-stopped _ (λ c. contentsLine (plain c) []) _ whole-ruling
+    pub plain_stopped : (w : Refusal) → q.at ≡ No w → stand_of q l ≡ go room (plain_course b v i) (stand_of p l)
+    unfolding plain_course
+    plain_stopped = line_stopped _ (λ c. contents_line (plain c) []) _ whole_ruling
 
-    pub plain-written : (z : Output)
-        → z ≡ puts room (contentsLine (plain (runBytes (extentAt v.reader b) (diskOf v.reader b) (size_of i) 0 (run_at b (searchOf v i.ids.private_id 8) t t.from))) []) (outputOf q.at l)
-        → ◌≡◌ {A = Stand} (record { output = z; nodes = q.nodes }) (go room (plainCourse b v i) (standOf p l))
-    unfolding plainCourse streamBytes
-    plain-written z x = line-written _ (λ c. contentsLine (plain c) []) _ whole-ruling z (rw g.run at x)
+    pub plain_written : (z : Output)
+        → z ≡ puts room (contents_line (plain (run_bytes (extent_at v.reader b) (disk_of v.reader b) (size_of i) 0 (run_at b (search_of v i.ids.private_id 8) t t.from))) []) (output_of q.at l)
+        → ◌≡◌ {A = Stand} (record { output = z; nodes = q.nodes }) (go room (plain_course b v i) (stand_of p l))
+    unfolding plain_course stream_bytes
+    plain_written z x = line_written _ (λ c. contents_line (plain c) []) _ whole_ruling z (rw g.run at x)
 
 -- an attribute's line, by where its contents lie
 module _ (room : ℕ) (b : List ℕ) (v : Volume) (a : Attribute) (p : Progress) (l : List ℕ) where
   abbrev written : Counted (List ℕ) → Stand
-  written c = go room (readings c λ d. writes (attributeLine (attributeShown v.reader b a d) [])) (standOf p l)
+  written c = go room (readings c λ d. writes (attribute_line (attribute_shown v.reader b a d) [])) (stand_of p l)
 
-  pub embedded-course : (s : Span) (z : Output) → p.nodes < 2 ^ 64 → a.contents ≡ Embedded s → z ≡ puts room (attributeLine (attributeShown v.reader b a (attributeBytes v.reader b a.place s)) []) (outputOf p.at l)
-      → ◌≡◌ {A = Stand} (record { output = z; nodes = p.nodes }) (go room (attributeCourse b v a) (standOf p l))
-  unfolding attributeCourse contentsBy
-  embedded-course s z f q h =
-      go-writes room _ (standOf p l) z h
-      ∙ ap (go room (writes _)) (sym (reads_none (attributeBytes v.reader b a.place s) (standOf p l) f))
-      ∙ sym (read-got (after 0 (got (attributeBytes v.reader b a.place s))) _ room (standOf p l) _ refl)
-      ∙ ap (λ (x : AttributeData). written (contentsBy b v a.place x 0)) (sym q)
+  pub embedded_course : (s : Span) (z : Output) → p.nodes < 2 ^ 64 → a.contents ≡ Embedded s → z ≡ puts room (attribute_line (attribute_shown v.reader b a (attribute_bytes v.reader b a.place s)) []) (output_of p.at l)
+      → ◌≡◌ {A = Stand} (record { output = z; nodes = p.nodes }) (go room (attribute_course b v a) (stand_of p l))
+  unfolding attribute_course contents_by
+  embedded_course s z f q h =
+      go_writes room _ (stand_of p l) z h
+      ∙ ap (go room (writes _)) (sym (reads_none (attribute_bytes v.reader b a.place s) (stand_of p l) f))
+      ∙ sym (read_got (after 0 (got (attribute_bytes v.reader b a.place s))) _ room (stand_of p l) _ refl)
+      ∙ ap (λ (x : AttributeData). written (contents_by b v a.place x 0)) (sym q)
 
-  pub streamed-course : (d : StreamData) (z : Stand) → a.contents ≡ Stream d → z ≡ go room (streamCourse b v a d) (standOf p l) → z ≡ go room (attributeCourse b v a) (standOf p l)
-  unfolding attributeCourse contentsBy streamCourse
-  streamed-course d z q h = h ∙ ap (λ (x : AttributeData). written (contentsBy b v a.place x 0)) (sym q)
+  pub streamed_course : (d : StreamData) (z : Stand) → a.contents ≡ Stream d → z ≡ go room (stream_course b v a d) (stand_of p l) → z ≡ go room (attribute_course b v a) (stand_of p l)
+  unfolding attribute_course contents_by stream_course
+  streamed_course d z q h = h ∙ ap (λ (x : AttributeData). written (contents_by b v a.place x 0)) (sym q)
 
 module _ (room : ℕ) (b : List ℕ) (v : Volume) (i : Inode) (p : Progress) (l : List ℕ) where
-  pub data-stopped : (w : Refusal) → p.at ≡ No w → standOf p l ≡ go room (dataCourse b v i) (standOf p l)
-  data-stopped w e = stays-no p room (dataCourse b v i) w l e
+  pub data_stopped : (w : Refusal) → p.at ≡ No w → stand_of p l ≡ go room (data_course b v i) (stand_of p l)
+  data_stopped w e = stays_no p room (data_course b v i) w l e
 
-  pub data-packed : (z : Output) → compressed i ≡ 1 → z ≡ puts room (contentsLine shown.packed []) (outputOf p.at l)
-      → ◌≡◌ {A = Stand} (record { output = z; nodes = p.nodes }) (go room (dataCourse b v i) (standOf p l))
-  unfolding dataCourse
-  data-packed z q h = go-writes room _ (standOf p l) z h ∙ ap (λ (c : Course). go room c (standOf p l)) (same _ _ _ _ _ q refl)
+  pub data_packed : (z : Output) → compressed i ≡ 1 → z ≡ puts room (contents_line shown.packed []) (output_of p.at l)
+      → ◌≡◌ {A = Stand} (record { output = z; nodes = p.nodes }) (go room (data_course b v i) (stand_of p l))
+  unfolding data_course
+  data_packed z q h = go_writes room _ (stand_of p l) z h ∙ ap (λ (c : Course). go room c (stand_of p l)) (same _ _ _ _ _ q refl)
 
-  pub data-plain : (z : Stand) → (compressed i ≡ 1 → ⊥) → z ≡ go room (plainCourse b v i) (standOf p l) → z ≡ go room (dataCourse b v i) (standOf p l)
-  unfolding dataCourse plainCourse
-  data-plain z q h = h ∙ ap (λ (c : Course). go room c (standOf p l)) (other _ _ _ _ _ q refl)
+  pub data_plain : (z : Stand) → (compressed i ≡ 1 → ⊥) → z ≡ go room (plain_course b v i) (stand_of p l) → z ≡ go room (data_course b v i) (stand_of p l)
+  unfolding data_course plain_course
+  data_plain z q h = h ∙ ap (λ (c : Course). go room c (stand_of p l)) (other _ _ _ _ _ q refl)
 
-pub ruleset all = (rules, streamed-line, packed-line, stream-stopped, stream-written, embedded-course, streamed-course, plain-stopped, plain-written, data-stopped, data-packed, data-plain)
+pub ruleset all = (rules, streamed_line, packed_line, stream_stopped, stream_written, embedded_course, streamed_course, plain_stopped, plain_written, data_stopped, data_packed, data_plain)

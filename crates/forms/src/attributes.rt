@@ -1,15 +1,15 @@
 // The attributes of a node, a line each.
 ghost use Rattle.std.specs.Prelude.{◌≡◌, []};
-ghost use Rattle.text.specs.Output.{outputOf, puts};
+ghost use Rattle.text.specs.Output.{output_of, puts};
 ghost use Rattle.cursor.specs.Left.{run_at};
-ghost use Rattle.records.specs.Attribute.{attributeAt};
-ghost use Rattle.lists.specs.Lists.{searchOf};
+ghost use Rattle.records.specs.Attribute.{attribute_at};
+ghost use Rattle.lists.specs.Lists.{search_of};
 ghost use Rattle.lists.specs.Inner.{readable};
-ghost use Rattle.lines.specs.Shown.{attributeShown};
-ghost use Rattle.lines.specs.Lines.{attributeLine};
-ghost use Rattle.streams.specs.Inner.{streamBytes};
-ghost use Rattle.forms.specs.Course.{attributeCourse, attributeCourses};
-ghost use Rattle.forms.specs.Inner.{go, standOf, streamCourse};
+ghost use Rattle.lines.specs.Shown.{attribute_shown};
+ghost use Rattle.lines.specs.Lines.{attribute_line};
+ghost use Rattle.streams.specs.Inner.{stream_bytes};
+ghost use Rattle.forms.specs.Course.{attribute_course, attribute_courses};
+ghost use Rattle.forms.specs.Inner.{go, stand_of, stream_course};
 
 use crate::reading::read;
 use calls::Progress;
@@ -32,7 +32,7 @@ pub fn put_streamed(
     d: StreamData,
     nodes: u64,
 ) -> Position
-    ensures { outputOf result out.new ≡ puts room (attributeLine (attributeShown v.reader image.now a (streamBytes image.now v d.object d.size nodes)) []) (outputOf p out.old) }
+    ensures { output_of result out.new ≡ puts room (attribute_line (attribute_shown v.reader image.now a (stream_bytes image.now v d.object d.size nodes)) []) (output_of p out.old) }
 {
     let reader = v.reader;
     let head = put_attribute_head(out, room, p, image, reader, a);
@@ -49,7 +49,7 @@ fn put_stream(
     a: Attribute,
     d: StreamData,
 ) -> Progress
-    ensures { standOf result out.new ≡ go room (streamCourse image.now v a d) (standOf p out.old) }
+    ensures { stand_of result out.new ≡ go room (stream_course image.now v a d) (stand_of p out.old) }
 {
     let s = settle_stream(image, v, d.object, d.size, 0);
     let q = read(p, s);
@@ -71,7 +71,7 @@ fn put_attribute(
     v: Volume,
     a: Attribute,
 ) -> Progress
-    ensures { standOf result out.new ≡ go room (attributeCourse image.now v a) (standOf p out.old) }
+    ensures { stand_of result out.new ≡ go room (attribute_course image.now v a) (stand_of p out.old) }
 {
     let at = p.at;
     let reader = v.reader;
@@ -95,7 +95,7 @@ pub fn put_attributes(
     id: u64,
     start: Step,
 ) -> Progress
-    ensures { standOf result out.new ≡ go room (attributeCourses image.now v (readable (attributeAt v.reader image.now) (run_at image.now (searchOf v id 4) start start.from))) (standOf p out.old) }
+    ensures { stand_of result out.new ≡ go room (attribute_courses image.now v (readable (attribute_at v.reader image.now) (run_at image.now (search_of v id 4) start start.from))) (stand_of p out.old) }
 {
     let q = search(v, id, 4);
     let keys = q.keys;

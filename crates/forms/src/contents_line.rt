@@ -1,18 +1,18 @@
 // The data of a node: a file's bytes, or that it is packed.
 ghost use Rattle.std.specs.Prelude.{◌≡◌, []};
-ghost use Rattle.text.specs.Output.{outputOf, puts};
+ghost use Rattle.text.specs.Output.{output_of, puts};
 ghost use Rattle.files.specs.File.{size_of};
 ghost use Rattle.lines.specs.Shown.{plain};
-ghost use Rattle.lines.specs.Lines.{contentsLine};
-ghost use Rattle.btree.specs.Scan.{scanOf};
+ghost use Rattle.lines.specs.Lines.{contents_line};
+ghost use Rattle.btree.specs.Scan.{scan_of};
 ghost use Rattle.cursor.specs.Left.{run_at, Begins};
 ghost use Rattle.cursor.specs.Way.{Leads};
-ghost use Rattle.records.specs.Extent.{extentAt};
-ghost use Rattle.lists.specs.Lists.{searchOf};
-ghost use Rattle.extents.specs.Extents.{diskOf};
-ghost use Rattle.streams.specs.Inner.{runBytes};
-ghost use Rattle.forms.specs.Course.{dataCourse};
-ghost use Rattle.forms.specs.Inner.{go, standOf, plainCourse};
+ghost use Rattle.records.specs.Extent.{extent_at};
+ghost use Rattle.lists.specs.Lists.{search_of};
+ghost use Rattle.extents.specs.Extents.{disk_of};
+ghost use Rattle.streams.specs.Inner.{run_bytes};
+ghost use Rattle.forms.specs.Course.{data_course};
+ghost use Rattle.forms.specs.Inner.{go, stand_of, plain_course};
 
 use crate::reading::read;
 use calls::Progress;
@@ -35,7 +35,7 @@ fn put_bytes(
     i: Inode,
     start: Step,
 ) -> Position
-    ensures { outputOf result out.new ≡ puts room (contentsLine (plain (runBytes (extentAt v.reader image.now) (diskOf v.reader image.now) (size_of i) 0 (run_at image.now (searchOf v i.ids.private_id 8) start start.from))) []) (outputOf p out.old) }
+    ensures { output_of result out.new ≡ puts room (contents_line (plain (run_bytes (extent_at v.reader image.now) (disk_of v.reader image.now) (size_of i) 0 (run_at image.now (search_of v i.ids.private_id 8) start start.from))) []) (output_of p out.old) }
 {
     let ids = i.ids;
     let size = size_of(i);
@@ -46,8 +46,8 @@ fn put_bytes(
 
 // A file's extents go by its private id, which mostly is its own.
 fn extents_on(image: &[u8], v: Volume, i: Inode, w: Way) -> Step
-    requires { Leads image.now (searchOf v i.id 3) 0 w }
-    ensures { Begins image.now (searchOf v i.ids.private_id 8) result (scanOf image.now (searchOf v i.ids.private_id 8) 0) }
+    requires { Leads image.now (search_of v i.id 3) 0 w }
+    ensures { Begins image.now (search_of v i.ids.private_id 8) result (scan_of image.now (search_of v i.ids.private_id 8) 0) }
 {
     let ids = i.ids;
     if ids.private_id == i.id {
@@ -65,8 +65,8 @@ fn put_plain(
     i: Inode,
     w: Way,
 ) -> Progress
-    requires { Leads image.now (searchOf v i.id 3) 0 w }
-    ensures { standOf result out.new ≡ go room (plainCourse image.now v i) (standOf p out.old) }
+    requires { Leads image.now (search_of v i.id 3) 0 w }
+    ensures { stand_of result out.new ≡ go room (plain_course image.now v i) (stand_of p out.old) }
 {
     let start = extents_on(image, v, i, w);
     let s = settle_whole(image, v, i, start);
@@ -91,8 +91,8 @@ pub fn put_data(
     i: Inode,
     w: Way,
 ) -> Progress
-    requires { Leads image.now (searchOf v i.id 3) 0 w }
-    ensures { standOf result out.new ≡ go room (dataCourse image.now v i) (standOf p out.old) }
+    requires { Leads image.now (search_of v i.id 3) 0 w }
+    ensures { stand_of result out.new ≡ go room (data_course image.now v i) (stand_of p out.old) }
 {
     let at = p.at;
     if let Position::No(_) = at {

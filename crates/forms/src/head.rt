@@ -2,12 +2,12 @@
 ghost use Rattle.std.specs.Prelude.{◌≡◌, List, ℕ};
 ghost use Rattle.cursor.specs.Left.{run_at};
 ghost use Rattle.cursor.specs.Way.{Leads};
-ghost use Rattle.records.specs.Attribute.{attributeAt};
-ghost use Rattle.volume.specs.Rule.{hashedKeys};
+ghost use Rattle.records.specs.Attribute.{attribute_at};
+ghost use Rattle.volume.specs.Rule.{hashed_keys};
 ghost use Rattle.records.specs.Directory.{entry_at};
-ghost use Rattle.lists.specs.Lists.{searchOf, list_of};
-ghost use Rattle.streams.specs.Streams.{settledTold};
-ghost use Rattle.forms.specs.Inner.{go, standOf, reads, settled, headCourse};
+ghost use Rattle.lists.specs.Lists.{search_of, list_of};
+ghost use Rattle.streams.specs.Streams.{settled_told};
+ghost use Rattle.forms.specs.Inner.{go, stand_of, reads, settled, head_course};
 
 use crate::attributes::put_attributes;
 use crate::contents_line::put_data;
@@ -24,7 +24,7 @@ use volume::Volume;
 
 // A place that no list reaches: the whole list from a step on is read, unless it has ended there.
 fn settle_attributes(image: &[u8], v: Volume, id: u64, start: Step) -> Settled
-    ensures { settledTold result ≡ settled (list_of (attributeAt v.reader image.now) (run_at image.now (searchOf v id 4) start start.from)) }
+    ensures { settled_told result ≡ settled (list_of (attribute_at v.reader image.now) (run_at image.now (search_of v id 4) start start.from)) }
 {
     let reached = start.reached;
     if let Reached::End = reached {
@@ -47,7 +47,7 @@ fn settle_attributes(image: &[u8], v: Volume, id: u64, start: Step) -> Settled
 }
 
 fn settle_entries(image: &[u8], v: Volume, id: u64, start: Step) -> Settled
-    ensures { settledTold result ≡ settled (list_of (entry_at (hashedKeys v) v.reader image.now) (run_at image.now (searchOf v id 9) start start.from)) }
+    ensures { settled_told result ≡ settled (list_of (entry_at (hashed_keys v) v.reader image.now) (run_at image.now (search_of v id 9) start start.from)) }
 {
     let reached = start.reached;
     if let Reached::End = reached {
@@ -77,7 +77,7 @@ fn read_lists(
     attributes: Step,
     entries: Step,
 ) -> Progress
-    ensures { (b : List ℕ) → standOf result b ≡ reads (list_of (entry_at (hashedKeys v) v.reader image.now) (run_at image.now (searchOf v id 9) entries entries.from)) (reads (list_of (attributeAt v.reader image.now) (run_at image.now (searchOf v id 4) attributes attributes.from)) (standOf p b)) }
+    ensures { (b : List ℕ) → stand_of result b ≡ reads (list_of (entry_at (hashed_keys v) v.reader image.now) (run_at image.now (search_of v id 9) entries entries.from)) (reads (list_of (attribute_at v.reader image.now) (run_at image.now (search_of v id 4) attributes attributes.from)) (stand_of p b)) }
 {
     let a = settle_attributes(image, v, id, attributes);
     let q = read(p, a);
@@ -100,8 +100,8 @@ pub fn put_head(
     w: Way,
     entries: Step,
 ) -> Progress
-    requires { Leads image.now (searchOf v i.id 3) 0 w }
-    ensures { standOf result out.new ≡ go room (headCourse image.now v i (run_at image.now (searchOf v i.id 9) entries entries.from)) (standOf p out.old) }
+    requires { Leads image.now (search_of v i.id 3) 0 w }
+    ensures { stand_of result out.new ≡ go room (head_course image.now v i (run_at image.now (search_of v i.id 9) entries entries.from)) (stand_of p out.old) }
 {
     let at = p.at;
     let reader = v.reader;

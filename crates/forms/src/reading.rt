@@ -1,9 +1,9 @@
 // What is met in reading, after what was written: a refusal, and the nodes gone through.
 ghost use Rattle.std.specs.Prelude.{◌≡◌, List, ℕ};
-ghost use Rattle.text.specs.Output.{outputOf};
-ghost use Rattle.streams.specs.Streams.{settledTold};
+ghost use Rattle.text.specs.Output.{output_of};
+ghost use Rattle.streams.specs.Streams.{settled_told};
 ghost use Rattle.demand.specs.Trace.{stop};
-ghost use Rattle.forms.specs.Inner.{ending, standOf, reads};
+ghost use Rattle.forms.specs.Inner.{ending, stand_of, reads};
 
 use calls::{Progress, plus};
 use error::Refusal;
@@ -13,7 +13,7 @@ use text::Position;
 
 // A position that is refused already stays so.
 pub fn refuse(p: Position, e: Refusal) -> Position
-    ensures { (b : List ℕ) → outputOf result b ≡ ending (stop e) (outputOf p b) }
+    ensures { (b : List ℕ) → output_of result b ≡ ending (stop e) (output_of p b) }
 {
     match p {
         Position::At(_) => Position::No(e),
@@ -23,7 +23,7 @@ pub fn refuse(p: Position, e: Refusal) -> Position
 
 // After a reading. Where something was refused before, it counts nothing.
 pub fn read(p: Progress, s: Settled) -> Progress
-    ensures { (b : List ℕ) → standOf result b ≡ reads (settledTold s) (standOf p b) }
+    ensures { (b : List ℕ) → stand_of result b ≡ reads (settled_told s) (stand_of p b) }
 {
     let at = p.at;
     let ruling = s.ruling;

@@ -1,10 +1,10 @@
 // What block 0 says: the block size, the block count and where the descriptor area lies.
 ghost use Rattle.std.specs.Prelude.{◌≡◌};
-ghost use Rattle.bytes.specs.Number.{told};
-ghost use Rattle.geometry.specs.BlockZero.{hasMagic, sizeTold, sizeOk, sizeIn, measuredTold, ringOf, geometryIn, size_at, geometryAt, areaAt};
+ghost use Rattle.byte_fields.specs.Number.{told};
+ghost use Rattle.geometry.specs.BlockZero.{has_magic, size_told, size_ok, size_in, measured_told, ring_of, geometry_in, size_at, geometry_at, area_at};
 
 use arith::product;
-use bytes::{Number, Sliced, part, span_at, u32_at, u64_at};
+use byte_fields::{Number, Sliced, part, span_at, u32_at, u64_at};
 use error::Refusal;
 use obj::Reader;
 
@@ -29,7 +29,7 @@ pub enum Sized {
 }
 
 fn size_ok(size: u32) -> Sized
-    ensures { sizeTold result ≡ sizeOk size }
+    ensures { size_told result ≡ size_ok size }
 {
     if size < 4096 {
         return Sized::No(Refusal::Corrupt);
@@ -45,7 +45,7 @@ fn size_ok(size: u32) -> Sized
 
 // Whether a block has NXSB where a container superblock has it.
 pub fn has_magic(b: &[u8]) -> bool
-    ensures { result ≡ hasMagic b.now }
+    ensures { result ≡ has_magic b.now }
 {
     match u32_at(b, 32) {
         Number::Got(magic) => magic == 0x4253584E,
@@ -55,7 +55,7 @@ pub fn has_magic(b: &[u8]) -> bool
 
 // The block size that the first 4,096 bytes give.
 fn size_in(b: &[u8]) -> Sized
-    ensures { sizeTold result ≡ sizeIn b.now }
+    ensures { size_told result ≡ size_in b.now }
 {
     if has_magic(b) {
         return match u32_at(b, 36) {
@@ -68,7 +68,7 @@ fn size_in(b: &[u8]) -> Sized
 
 // The descriptor area as a ring of blocks.
 fn ring_of(size: u32, count: u64, blocks: u32, base: u64) -> Measured
-    ensures { measuredTold result ≡ ringOf size count blocks base }
+    ensures { measured_told result ≡ ring_of size count blocks base }
 {
     if blocks / 2147483648 == 1 {
         return Measured::No(Refusal::Unsupported);
@@ -85,7 +85,7 @@ fn ring_of(size: u32, count: u64, blocks: u32, base: u64) -> Measured
 }
 
 fn geometry_in(b: &[u8], size: u32) -> Measured
-    ensures { measuredTold result ≡ geometryIn b.now size }
+    ensures { measured_told result ≡ geometry_in b.now size }
 {
     let count = match u64_at(b, 40) {
         Number::Got(x) => x,
@@ -102,7 +102,7 @@ fn geometry_in(b: &[u8], size: u32) -> Measured
 }
 
 fn first_bytes(image: &[u8]) -> Sized
-    ensures { sizeTold result ≡ size_at image.now }
+    ensures { size_told result ≡ size_at image.now }
 {
     match span_at(image.len(), 0, 4096, Refusal::Io) {
         Sliced::Got(s) => size_in(part(image, s)),
@@ -111,7 +111,7 @@ fn first_bytes(image: &[u8]) -> Sized
 }
 
 pub fn geometry_at(image: &[u8]) -> Measured
-    ensures { measuredTold result ≡ geometryAt image.now }
+    ensures { measured_told result ≡ geometry_at image.now }
 {
     match first_bytes(image) {
         Sized::Got(size) => match span_at(image.len(), 0, size as usize, Refusal::Io) {
@@ -124,7 +124,7 @@ pub fn geometry_at(image: &[u8]) -> Measured
 
 // Where the descriptor area starts.
 pub fn area_at(size: usize, g: Geometry) -> Number
-    ensures { told result ≡ areaAt size g }
+    ensures { told result ≡ area_at size g }
 {
     let block = g.reader.block_size as u64;
     match product(g.base, block) {

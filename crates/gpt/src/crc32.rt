@@ -1,9 +1,9 @@
 // CRC-32 (IEEE 802.3), by a table of words.
 ghost use Rattle.std.specs.Prelude.{◌≡◌, ◌≤◌};
 ghost use Rattle.crc.specs.Tabled.{TableRule};
-ghost use Rattle.gpt.specs.Table.{ieee, crc32, headerCrc};
+ghost use Rattle.gpt.specs.Table.{ieee, crc32, header_crc};
 
-use bytes::{Span, part};
+use byte_fields::{Span, part};
 use crc::crc_of;
 
 // A byte's word is the byte after eight shifts.
@@ -59,7 +59,7 @@ pub fn crc32_of(b: &[u8]) -> u32
 // Of the first n bytes of a header, its own sum counting as zeros.
 pub fn header_crc(h: &[u8], n: usize) -> u32
     requires { 20 ≤ n }
-    ensures { result ≡ headerCrc h.now n }
+    ensures { result ≡ header_crc h.now n }
 {
     let words = table();
     let zeros = [0u8; 4];

@@ -1,16 +1,16 @@
 // The entries of the table: the first one of a container's type.
 ghost use Rattle.std.specs.Prelude.{◌≡◌, ◌+◌, ◌*◌, ◌^◌, ◌≤◌, length};
-ghost use Rattle.bytes.specs.Part.{sliced};
-ghost use Rattle.gpt.specs.Table.{isApfs, place_of, entryIn};
+ghost use Rattle.byte_fields.specs.Part.{sliced};
+ghost use Rattle.gpt.specs.Table.{is_apfs, place_of, entry_in};
 
 use crate::header::Table;
-use bytes::{Sliced, Span, eight};
+use byte_fields::{Sliced, Span, eight};
 use error::Refusal;
 
 // Type 7C3457EF-0000-11AA-AA11-00306543ECAC, as two numbers.
 fn is_apfs(image: &[u8], at: usize) -> bool
     requires { at + 16 ≤ length image.now }
-    ensures { result ≡ isApfs image.now at }
+    ensures { result ≡ is_apfs image.now at }
 {
     if eight(image, at) != 0x11AA00007C3457EF {
         return false;
@@ -37,7 +37,7 @@ fn place_of(size: usize, first: u64, last: u64) -> Sliced
 
 pub fn entry_in(image: &[u8], t: Table) -> Sliced
     requires { (t.start + t.count * t.size ≤ length image.now) × (128 ≤ t.size) × (length image.now ≤ 2 ^ 34) }
-    ensures { sliced result ≡ entryIn image.now t t.count 0 }
+    ensures { sliced result ≡ entry_in image.now t t.count 0 }
 {
     let mut i: u32 = 0;
     while i < t.count {

@@ -1,9 +1,9 @@
 // A header of the table: whether it is intact, and where it says that the entries lie.
 ghost use Rattle.std.specs.Prelude.{◌≡◌, true, ◌+◌, ◌*◌, ◌^◌, ◌≤◌, length};
-ghost use Rattle.gpt.specs.Table.{sectorOf, tableIn, sizeFits, arrayIntact, intact, tableTold, table_of, headerIntact};
+ghost use Rattle.gpt.specs.Table.{sector_of, table_in, size_fits, array_intact, intact, table_told, table_of, header_intact};
 
 use crate::crc32::{crc32_of, header_crc};
-use bytes::{Span, eight, four, part};
+use byte_fields::{Span, eight, four, part};
 use error::Refusal;
 
 // Entries of `size` bytes each, from byte `start` on.
@@ -22,7 +22,7 @@ pub enum TableRead {
 
 fn sector(image: &[u8], lba: u64) -> &[u8]
     requires { (512 * lba + 512 ≤ length image.now) × (length image.now ≤ 2 ^ 34) }
-    ensures { (result.now ≡ sectorOf image.now lba) × (length result.now ≡ 512) }
+    ensures { (result.now ≡ sector_of image.now lba) × (length result.now ≡ 512) }
 {
     part(
         image,
@@ -35,7 +35,7 @@ fn sector(image: &[u8], lba: u64) -> &[u8]
 
 // "entry length 128 times a power of two"
 fn size_fits(size: u32) -> bool
-    ensures { result ≡ sizeFits size }
+    ensures { result ≡ size_fits size }
 {
     if size < 128 {
         return false;
@@ -46,7 +46,7 @@ fn size_fits(size: u32) -> bool
 // The entries lie in the image and have the sum that the header says.
 fn array_intact(image: &[u8], h: &[u8]) -> bool
     requires { (length h.now ≡ 512) × (length image.now ≤ 2 ^ 34) }
-    ensures { result ≡ arrayIntact image.now h.now }
+    ensures { result ≡ array_intact image.now h.now }
 {
     let size = four(h, 84);
     if !size_fits(size) {
@@ -75,7 +75,7 @@ fn array_intact(image: &[u8], h: &[u8]) -> bool
 // The header's own fields and its sum.
 fn header_intact(h: &[u8], lba: u64) -> bool
     requires { length h.now ≡ 512 }
-    ensures { result ≡ headerIntact h.now lba }
+    ensures { result ≡ header_intact h.now lba }
 {
     if eight(h, 0) != 0x5452415020494645 {
         return false;
@@ -107,7 +107,7 @@ fn is_intact(image: &[u8], lba: u64) -> bool
 // What the intact header of a sector says.
 fn table_at(image: &[u8], lba: u64) -> Table
     requires { (512 * lba + 512 ≤ length image.now) × (length image.now ≤ 2 ^ 34) × (intact image.now lba ≡ true) }
-    ensures { result ≡ tableIn (sectorOf image.now lba) }
+    ensures { result ≡ table_in (sector_of image.now lba) }
 {
     let h = sector(image, lba);
     Table {
@@ -120,7 +120,7 @@ fn table_at(image: &[u8], lba: u64) -> Table
 // The backup header, in the last whole sector, is asked where the primary is not intact.
 pub fn table_of(image: &[u8]) -> TableRead
     requires { (4096 ≤ length image.now) × (length image.now ≤ 2 ^ 34) }
-    ensures { tableTold result ≡ table_of image.now }
+    ensures { table_told result ≡ table_of image.now }
 {
     if is_intact(image, 1) {
         return TableRead::Got(table_at(image, 1));

@@ -1,15 +1,15 @@
 // The part of an image that everything reads.
 ghost use Rattle.std.specs.Prelude.{◌≡◌};
-ghost use Rattle.bytes.specs.Part.{sliced};
-ghost use Rattle.gpt.specs.Part.{partOfImage};
+ghost use Rattle.byte_fields.specs.Part.{sliced};
+ghost use Rattle.gpt.specs.Part.{part_of_image};
 
 use crate::entries::entry_in;
 use crate::header::{TableRead, table_of};
-use bytes::{Sliced, Span, four};
+use byte_fields::{Sliced, Span, four};
 use error::Refusal;
 
 pub fn part_of_image(image: &[u8]) -> Sliced
-    ensures { sliced result ≡ partOfImage image.now }
+    ensures { sliced result ≡ part_of_image image.now }
 {
     if 17179869184 < image.len() {
         return Sliced::No(Refusal::ImageTooLarge);

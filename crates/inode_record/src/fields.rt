@@ -1,8 +1,8 @@
 // The extended fields of an inode (`xf_blob_t`): a table of kinds and sizes, then each field's bytes.
 ghost use Rattle.std.specs.Prelude.{◌≡◌, ◌<◌, ◌+◌, ◌*◌};
-ghost use Rattle.inode_record.specs.Fields.{fieldsTold, streamField, fieldIn, laterName, laterStream, mergedOf, field_at, nextOff, fieldsFrom, noFields, fieldsIn};
+ghost use Rattle.inode_record.specs.Fields.{fields_told, stream_field, field_in, later_name, later_stream, merged_of, field_at, next_off, fields_from, no_fields, fields_in};
 
-use bytes::{Number, Sliced, Span, part, slice_at, u16_at, u32_at, u64_at};
+use byte_fields::{Number, Sliced, Span, part, slice_at, u16_at, u32_at, u64_at};
 use error::Refusal;
 use names::{Name, name_of};
 
@@ -38,7 +38,7 @@ pub enum FieldsRead {
 }
 
 fn stream_field(b: &[u8]) -> FieldsRead
-    ensures { fieldsTold result ≡ streamField b.now }
+    ensures { fields_told result ≡ stream_field b.now }
 {
     let size = match u64_at(b, 0) {
         Number::Got(x) => x,
@@ -59,7 +59,7 @@ fn stream_field(b: &[u8]) -> FieldsRead
 
 // What one field, of a kind, gives.
 fn field_in(v: &[u8], kind: u64, s: Span) -> FieldsRead
-    ensures { fieldsTold result ≡ fieldIn v.now kind s }
+    ensures { fields_told result ≡ field_in v.now kind s }
 {
     if kind == 4 {
         return FieldsRead::Got(Fields {
@@ -77,7 +77,7 @@ fn field_in(v: &[u8], kind: u64, s: Span) -> FieldsRead
 }
 
 fn later_name(later: NameField, earlier: NameField) -> NameField
-    ensures { result ≡ laterName later earlier }
+    ensures { result ≡ later_name later earlier }
 {
     match later {
         NameField::At(n) => NameField::At(n),
@@ -86,7 +86,7 @@ fn later_name(later: NameField, earlier: NameField) -> NameField
 }
 
 fn later_stream(later: StreamField, earlier: StreamField) -> StreamField
-    ensures { result ≡ laterStream later earlier }
+    ensures { result ≡ later_stream later earlier }
 {
     match later {
         StreamField::At(d) => StreamField::At(d),
@@ -96,7 +96,7 @@ fn later_stream(later: StreamField, earlier: StreamField) -> StreamField
 
 // A later copy of a field takes the place of an earlier one.
 fn merged(later: Fields, earlier: Fields) -> Fields
-    ensures { result ≡ mergedOf later earlier }
+    ensures { result ≡ merged_of later earlier }
 {
     let name = later.name;
     let stream = later.stream;
@@ -110,7 +110,7 @@ fn merged(later: Fields, earlier: Fields) -> Fields
 
 // The same of a field with its entry of the table, whose bytes lie at off.
 fn field_at(v: &[u8], head: u64, off: u64) -> FieldsRead
-    ensures { fieldsTold result ≡ field_at v.now head off }
+    ensures { fields_told result ≡ field_at v.now head off }
 {
     match slice_at(v, off as usize, (head / 65536) as usize) {
         Sliced::Got(s) => field_in(v, head % 256, s),
@@ -121,7 +121,7 @@ fn field_at(v: &[u8], head: u64, off: u64) -> FieldsRead
 // Where the bytes of the field after it lie.
 fn next_off(off: u64, head: u32) -> u64
     requires { off < 9223372036854775808 }
-    ensures { result ≡ nextOff off head }
+    ensures { result ≡ next_off off head }
 {
     off + (head as u64 / 65536 + 7) / 8 * 8
 }
@@ -129,7 +129,7 @@ fn next_off(off: u64, head: u32) -> u64
 // The fields of a table of n, whose bytes begin after it.
 fn fields_of(v: &[u8], n: u64) -> FieldsRead
     requires { n < 65536 }
-    ensures { fieldsTold result ≡ fieldsFrom v.now n 0 (96 + 4 * n) noFields }
+    ensures { fields_told result ≡ fields_from v.now n 0 (96 + 4 * n) no_fields }
 {
     let mut f = Fields {
         name: NameField::Absent,
@@ -156,7 +156,7 @@ fn fields_of(v: &[u8], n: u64) -> FieldsRead
 
 // The extended fields of an inode's value.
 pub fn fields_in(v: &[u8]) -> FieldsRead
-    ensures { fieldsTold result ≡ fieldsIn v.now }
+    ensures { fields_told result ≡ fields_in v.now }
 {
     if v.len() < 96 {
         return FieldsRead::Got(Fields {

@@ -1,9 +1,9 @@
 // An inode (`j_inode_val_t`).
 ghost use Rattle.std.specs.Prelude.{◌≡◌};
-ghost use Rattle.inode_record.specs.Inode.{inodeTold, idsTold, ids_in, timesTold, timesIn, ownerTold, ownerWith, ownerIn, signed_of, inodeIn, inodeAt, inodeName};
+ghost use Rattle.inode_record.specs.Inode.{inode_told, ids_told, ids_in, times_told, times_in, owner_told, owner_with, owner_in, signed_of, inode_in, inode_at, inode_name};
 
 use crate::fields::{Fields, FieldsRead, fields_in};
-use bytes::{Number, u16_at, u32_at, u64_at};
+use byte_fields::{Number, u16_at, u32_at, u64_at};
 use error::Refusal;
 use names::{Name, name_bytes};
 use node::{Place, value_of};
@@ -68,7 +68,7 @@ pub enum InodeRead {
 }
 
 fn ids_in(v: &[u8]) -> IdsRead
-    ensures { idsTold result ≡ ids_in v.now }
+    ensures { ids_told result ≡ ids_in v.now }
 {
     let parent = match u64_at(v, 0) {
         Number::Got(x) => x,
@@ -85,7 +85,7 @@ fn ids_in(v: &[u8]) -> IdsRead
 }
 
 fn times_in(v: &[u8]) -> TimesRead
-    ensures { timesTold result ≡ timesIn v.now }
+    ensures { times_told result ≡ times_in v.now }
 {
     let create = match u64_at(v, 16) {
         Number::Got(x) => x,
@@ -123,7 +123,7 @@ fn signed_of(x: u32) -> i32
 }
 
 fn owner_with(v: &[u8], flags: u64, links: i32, bsd: u32) -> OwnerRead
-    ensures { ownerTold result ≡ ownerWith v.now flags links bsd }
+    ensures { owner_told result ≡ owner_with v.now flags links bsd }
 {
     let owner = match u32_at(v, 72) {
         Number::Got(x) => x,
@@ -147,7 +147,7 @@ fn owner_with(v: &[u8], flags: u64, links: i32, bsd: u32) -> OwnerRead
 }
 
 fn owner_in(v: &[u8]) -> OwnerRead
-    ensures { ownerTold result ≡ ownerIn v.now }
+    ensures { owner_told result ≡ owner_in v.now }
 {
     let flags = match u64_at(v, 48) {
         Number::Got(x) => x,
@@ -164,7 +164,7 @@ fn owner_in(v: &[u8]) -> OwnerRead
 }
 
 fn inode_in(place: Place, id: u64, v: &[u8]) -> InodeRead
-    ensures { inodeTold result ≡ inodeIn place id v.now }
+    ensures { inode_told result ≡ inode_in place id v.now }
 {
     let ids = match ids_in(v) {
         IdsRead::Got(x) => x,
@@ -193,14 +193,14 @@ fn inode_in(place: Place, id: u64, v: &[u8]) -> InodeRead
 
 // The inode of a record.
 pub fn inode_at(reader: Reader, image: &[u8], place: Place, id: u64) -> InodeRead
-    ensures { inodeTold result ≡ inodeAt reader image.now place id }
+    ensures { inode_told result ≡ inode_at reader image.now place id }
 {
     inode_in(place, id, value_of(reader, image, place))
 }
 
 // The bytes of a name in an inode's value.
 pub fn inode_name(reader: Reader, image: &[u8], place: Place, name: Name) -> &[u8]
-    ensures { result.now ≡ inodeName reader image.now place name }
+    ensures { result.now ≡ inode_name reader image.now place name }
 {
     name_bytes(value_of(reader, image, place), name)
 }

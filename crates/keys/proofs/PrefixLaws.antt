@@ -11,15 +11,15 @@ use lib.ListN.{length, get_or, take, drop, length-drop, length-append}
 use lib.Seq.{drop-cons, drop-drop}
 use native.Mathlib.Omega.{arith}
 use native.Mathlib.Numerals.{add-one}
-use Rattle.error.specs.Answer.{pick, ifEq}
-use Rattle.error.proofs.Laws.{same, other, le-cases}
-use Rattle.utf8.specs.Text.{sameBytes, ascii}
-use Rattle.utf8.proofs.Equal.{same-equal, equal-same, unlike}
-use Rattle.utf8.proofs.Pieces.{below, in-cases}
-use Rattle.unicode.specs.Data.{class_of}
-use Rattle.unicode.specs.Keys.{canonical, key_of, sameKeys}
-use Rattle.unicode.specs.Stream.{lettersOf, letters, smallOf, without}
-use Rattle.keys.specs.Told.{characterOf, unpacked, Shares, left_of, stepTold, sameLeft, Passes}
+use Rattle.error.specs.Answer.{pick, if_eq}
+use Rattle.error.proofs.Laws.{same, other, le_cases}
+use Rattle.utf8.specs.Text.{same_bytes, ascii}
+use Rattle.utf8.proofs.Equal.{same_equal, equal_same, unlike}
+use Rattle.utf8.proofs.Pieces.{below, in_cases}
+use Rattle.unicode_forms.specs.Data.{class_of}
+use Rattle.unicode_forms.specs.Keys.{canonical, key_of, same_keys}
+use Rattle.unicode_forms.specs.Stream.{letters_of, letters, small_of, without}
+use Rattle.keys.specs.Told.{character_of, unpacked, Shares, left_of, step_told, same_left, Passes}
 use Rattle.keys.specs.declared.characters.Character.{Character}
 use Rattle.keys.specs.declared.characters.Character.TheVariants as character
 use Rattle.keys.specs.declared.compare.Passing.{Passing}
@@ -28,182 +28,182 @@ use Rattle.keys.specs.declared.stream.Cursor.{Cursor}
 use Rattle.keys.specs.declared.stream.Pending.TheVariants as pending
 use Rattle.keys.specs.declared.stream.Step.{Step}
 use Rattle.keys.specs.declared.stream.Step.TheVariants as step
-use Rattle.keys.proofs.AsciiLaws.{ascii-at, ascii-letters}
-use Rattle.unicode.proofs.Order.{drops, keeps, canonical-same, canonical-back}
-use Rattle.unicode.proofs.RunLaws.{canonical-starter}
-use Rattle.keys.proofs.LetterLaws.{some-letters}
-use Rattle.keys.proofs.StreamLaws.{here, letters-none, letters-first, size-first}
-use Rattle.unicode.proofs.Same.{key-letters, keys-letters}
+use Rattle.keys.proofs.AsciiLaws.{ascii_at, ascii_letters}
+use Rattle.unicode_forms.proofs.Order.{drops, keeps, canonical_same, canonical_back}
+use Rattle.unicode_forms.proofs.RunLaws.{canonical_starter}
+use Rattle.keys.proofs.LetterLaws.{some_letters}
+use Rattle.keys.proofs.StreamLaws.{here, letters_none, letters_first, size_first}
+use Rattle.unicode_forms.proofs.Same.{key_letters, keys_letters}
 
-small-bound : (caseless : Bool) (x : ℕ) → smallOf caseless x ≤ x + 32
-unfolding smallOf
-small-bound true x = in-cases (λ z. z ≤ x + 32) (λ h k. omega arith) (omega arith)
-small-bound false x = omega arith
+small_bound : (caseless : Bool) (x : ℕ) → small_of caseless x ≤ x + 32
+unfolding small_of
+small_bound true x = in_cases (λ z. z ≤ x + 32) (λ h k. omega arith) (omega arith)
+small_bound false x = omega arith
 
-small_least : (caseless : Bool) (x : ℕ) → x ≤ smallOf caseless x
-unfolding smallOf
-small_least true x = in-cases (λ z. x ≤ z) (λ h k. omega arith) (omega arith)
+small_least : (caseless : Bool) (x : ℕ) → x ≤ small_of caseless x
+unfolding small_of
+small_least true x = in_cases (λ z. x ≤ z) (λ h k. omega arith) (omega arith)
 small_least false x = omega arith
 
-small-ascii : (caseless : Bool) (x : ℕ) → x ≤ 127 → smallOf caseless x ≤ 127
-unfolding smallOf
-small-ascii true x l = in-cases (λ z. z ≤ 127) (λ h k. omega arith) (omega arith)
-small-ascii false x l = l
+small_ascii : (caseless : Bool) (x : ℕ) → x ≤ 127 → small_of caseless x ≤ 127
+unfolding small_of
+small_ascii true x l = in_cases (λ z. z ≤ 127) (λ h k. omega arith) (omega arith)
+small_ascii false x l = l
 
-ascii-starter : (caseless : Bool) (x : ℕ) → x ≤ 127 → class_of (smallOf caseless x) ≡ 0
+ascii_starter : (caseless : Bool) (x : ℕ) → x ≤ 127 → class_of (small_of caseless x) ≡ 0
 unfolding class_of
-ascii-starter caseless x h =
-    sym (below _ _ _ _ _ _ (omega (arith, small-bound caseless x)) (below _ _ _ _ _ _ (omega (arith, small-bound caseless x)) refl))
+ascii_starter caseless x h =
+    sym (below _ _ _ _ _ _ (omega (arith, small_bound caseless x)) (below _ _ _ _ _ _ (omega (arith, small_bound caseless x)) refl))
 
-ascii-ordered : (caseless : Bool) (x : ℕ) (b : List ℕ) → x ≤ 127 → canonical (letters caseless (x ∷ b)) ≡ smallOf caseless x ∷ canonical (letters caseless b)
-ascii-ordered caseless x b h = ap canonical (ascii-letters caseless x b h) ∙ canonical-starter (smallOf caseless x) (letters caseless b) (ascii-starter caseless x h)
+ascii_ordered : (caseless : Bool) (x : ℕ) (b : List ℕ) → x ≤ 127 → canonical (letters caseless (x ∷ b)) ≡ small_of caseless x ∷ canonical (letters caseless b)
+ascii_ordered caseless x b h = ap canonical (ascii_letters caseless x b h) ∙ canonical_starter (small_of caseless x) (letters caseless b) (ascii_starter caseless x h)
 
 -- the key of an ASCII name is the name, in lower case where case does not count: as it was before request 07
-pub ascii-key : (caseless : Bool) (b : List ℕ) → ascii b ≡ true → key_of caseless b ≡ map (smallOf caseless) b
+pub ascii_key : (caseless : Bool) (b : List ℕ) → ascii b ≡ true → key_of caseless b ≡ map (small_of caseless) b
 unfolding ascii canonical
-ascii-key caseless b h = key-letters b caseless ∙ of b h
+ascii_key caseless b h = key_letters b caseless ∙ of b h
   where
-    of : (b : List ℕ) → ascii b ≡ true → canonical (letters caseless b) ≡ map (smallOf caseless) b
-    of [] = λ e. ap canonical (letters-none caseless)
-    of (x ∷ b) = le-cases (λ (t : Bool). t ≡ true → canonical (letters caseless (x ∷ b)) ≡ smallOf caseless x ∷ map (smallOf caseless) b)
-        (λ k e. ascii-ordered caseless x b k ∙ ap (smallOf caseless x ∷◌) (of b e))
+    of : (b : List ℕ) → ascii b ≡ true → canonical (letters caseless b) ≡ map (small_of caseless) b
+    of [] = λ e. ap canonical (letters_none caseless)
+    of (x ∷ b) = le_cases (λ (t : Bool). t ≡ true → canonical (letters caseless (x ∷ b)) ≡ small_of caseless x ∷ map (small_of caseless) b)
+        (λ k e. ascii_ordered caseless x b k ∙ ap (small_of caseless x ∷◌) (of b e))
         (λ k e. absurd (let z : ◌≡◌ {A = ℕ} 0 1 = cc in omega arith))
 
-pub prefix-starts : (caseless : Bool) (a b : List ℕ) → sameBytes (canonical (letters caseless (drop 0 a))) (canonical (letters caseless (drop 0 b))) ≡ sameKeys caseless a b
-prefix-starts caseless a b = keys-letters caseless a b
+pub prefix_starts : (caseless : Bool) (a b : List ℕ) → same_bytes (canonical (letters caseless (drop 0 a))) (canonical (letters caseless (drop 0 b))) ≡ same_keys caseless a b
+prefix_starts caseless a b = keys_letters caseless a b
 
-module _ (caseless : Bool) (a b : List ℕ) (i j : ℕ) (whole : Bool) (inv : sameLeft caseless a b i j ≡ whole) where
-  pub prefix-rest : (r : Bool) → r ≡ sameLeft caseless a b i j → r ≡ whole
-  prefix-rest r e = e ∙ inv
+module _ (caseless : Bool) (a b : List ℕ) (i j : ℕ) (whole : Bool) (inv : same_left caseless a b i j ≡ whole) where
+  pub prefix_rest : (r : Bool) → r ≡ same_left caseless a b i j → r ≡ whole
+  prefix_rest r e = e ∙ inv
 
-  module _ (h : i < length a) (k : j < length b) (p : get_or a i 0 ≤ 127) (x y : ℕ) (e : x ≡ smallOf caseless (get_or a i 0)) (f : y ≡ smallOf caseless (get_or b j 0)) where
-    heads : get_or b j 0 ≤ 127 → sameBytes (x ∷ canonical (letters caseless (drop (suc i) a))) (y ∷ canonical (letters caseless (drop (suc j) b))) ≡ whole
-    heads q = rw (e, f, ← ascii-ordered caseless (get_or a i 0) (drop (suc i) a) p, ← ascii-ordered caseless (get_or b j 0) (drop (suc j) b) q) (rw (drop-cons a i 0 h, drop-cons b j 0 k) at inv)
+  module _ (h : i < length a) (k : j < length b) (p : get_or a i 0 ≤ 127) (x y : ℕ) (e : x ≡ small_of caseless (get_or a i 0)) (f : y ≡ small_of caseless (get_or b j 0)) where
+    heads : get_or b j 0 ≤ 127 → same_bytes (x ∷ canonical (letters caseless (drop (suc i) a))) (y ∷ canonical (letters caseless (drop (suc j) b))) ≡ whole
+    heads q = rw (e, f, ← ascii_ordered caseless (get_or a i 0) (drop (suc i) a) p, ← ascii_ordered caseless (get_or b j 0) (drop (suc j) b) q) (rw (drop-cons a i 0 h, drop-cons b j 0 k) at inv)
 
-    pub prefix-stops : get_or b j 0 ≤ 127 → (x ≡ y → ⊥) → false ≡ whole
-    unfolding sameBytes
-    prefix-stops q n = other _ _ _ _ _ n refl ∙ heads q
+    pub prefix_stops : get_or b j 0 ≤ 127 → (x ≡ y → ⊥) → false ≡ whole
+    unfolding same_bytes
+    prefix_stops q n = other _ _ _ _ _ n refl ∙ heads q
 
-    pub prefix-goes : x ≡ y → sameLeft caseless a b (i + 1) (j + 1) ≡ whole
-    unfolding sameBytes
-    prefix-goes n = rw (add-one, add-one) (same _ _ _ _ _ n refl ∙ heads (omega (arith, small_least caseless (get_or b j 0), small-ascii caseless (get_or a i 0) p)))
+    pub prefix_goes : x ≡ y → same_left caseless a b (i + 1) (j + 1) ≡ whole
+    unfolding same_bytes
+    prefix_goes n = rw (add-one, add-one) (same _ _ _ _ _ n refl ∙ heads (omega (arith, small_least caseless (get_or b j 0), small_ascii caseless (get_or a i 0) p)))
 
 -- beside a name in ASCII
-module _ (caseless : Bool) (a b : List ℕ) (t : ascii b ≡ true) (i : ℕ) (whole : Bool) (inv : sameLeft caseless a b i i ≡ whole)
-    (h : i < length a) (k : i < length b) (x y : ℕ) (e : x ≡ smallOf caseless (get_or a i 0)) (f : y ≡ smallOf caseless (get_or b i 0)) where
-  pub beside-goes : x ≡ y → sameLeft caseless a b (i + 1) (i + 1) ≡ whole
-  beside-goes n =
-      prefix-goes caseless a b i i whole inv h k (omega (arith, small_least caseless (get_or a i 0), small-ascii caseless (get_or b i 0) (ascii-at b i t k))) x y e f n
+module _ (caseless : Bool) (a b : List ℕ) (t : ascii b ≡ true) (i : ℕ) (whole : Bool) (inv : same_left caseless a b i i ≡ whole)
+    (h : i < length a) (k : i < length b) (x y : ℕ) (e : x ≡ small_of caseless (get_or a i 0)) (f : y ≡ small_of caseless (get_or b i 0)) where
+  pub beside_goes : x ≡ y → same_left caseless a b (i + 1) (i + 1) ≡ whole
+  beside_goes n =
+      prefix_goes caseless a b i i whole inv h k (omega (arith, small_least caseless (get_or a i 0), small_ascii caseless (get_or b i 0) (ascii_at b i t k))) x y e f n
 
-  pub beside-stops : get_or a i 0 ≤ 127 → (x ≡ y → ⊥) → false ≡ whole
-  beside-stops p n = prefix-stops caseless a b i i whole inv h k p x y e f (ascii-at b i t k) n
+  pub beside_stops : get_or a i 0 ≤ 127 → (x ≡ y → ⊥) → false ≡ whole
+  beside_stops p n = prefix_stops caseless a b i i whole inv h k p x y e f (ascii_at b i t k) n
 
 -- an ASCII character is a letter
-ascii-less : (caseless : Bool) (a : List ℕ) (i : ℕ) → i < length a → get_or a i 0 ≤ 127 → length (letters caseless (drop (i + 1) a)) < length (letters caseless (drop i a))
-ascii-less caseless a i h p =
-    let q : length (letters caseless (drop i a)) ≡ suc (length (letters caseless (drop (suc i) a))) = ap (λ z. length (letters caseless z)) (drop-cons a i 0 h) ∙ ap length (ascii-letters caseless (get_or a i 0) (drop (suc i) a) p) in
+ascii_less : (caseless : Bool) (a : List ℕ) (i : ℕ) → i < length a → get_or a i 0 ≤ 127 → length (letters caseless (drop (i + 1) a)) < length (letters caseless (drop i a))
+ascii_less caseless a i h p =
+    let q : length (letters caseless (drop i a)) ≡ suc (length (letters caseless (drop (suc i) a))) = ap (λ z. length (letters caseless z)) (drop-cons a i 0 h) ∙ ap length (ascii_letters caseless (get_or a i 0) (drop (suc i) a) p) in
     rw add-one (omega arith)
 
-pub pass-ascii : (caseless : Bool) (a b : List ℕ) (i j x y : ℕ) → i < length a → j < length b → get_or a i 0 ≤ 127 → x ≡ smallOf caseless (get_or a i 0) → y ≡ smallOf caseless (get_or b j 0) → x ≡ y
+pub pass_ascii : (caseless : Bool) (a b : List ℕ) (i j x y : ℕ) → i < length a → j < length b → get_or a i 0 ≤ 127 → x ≡ small_of caseless (get_or a i 0) → y ≡ small_of caseless (get_or b j 0) → x ≡ y
     → Passes caseless a b i j (passing.To (i + 1) (j + 1))
-pass-ascii caseless a b i j x y h k p e f n = (prefix-goes caseless a b i j _ refl h k p x y e f n, ascii-less caseless a i h p)
+pass_ascii caseless a b i j x y h k p e f n = (prefix_goes caseless a b i j _ refl h k p x y e f n, ascii_less caseless a i h p)
 
-pub pass-apart : (caseless : Bool) (a b : List ℕ) (i j x y : ℕ) → i < length a → j < length b → get_or a i 0 ≤ 127 → get_or b j 0 ≤ 127 → x ≡ smallOf caseless (get_or a i 0) → y ≡ smallOf caseless (get_or b j 0) → (x ≡ y → ⊥)
+pub pass_apart : (caseless : Bool) (a b : List ℕ) (i j x y : ℕ) → i < length a → j < length b → get_or a i 0 ≤ 127 → get_or b j 0 ≤ 127 → x ≡ small_of caseless (get_or a i 0) → y ≡ small_of caseless (get_or b j 0) → (x ≡ y → ⊥)
     → Passes caseless a b i j passing.Apart
-pass-apart caseless a b i j x y h k p q e f n = prefix-stops caseless a b i j _ refl h k p x y e f q n
+pass_apart caseless a b i j x y h k p q e f n = prefix_stops caseless a b i j _ refl h k p x y e f q n
 
 -- ---- a character that both begin with
 
-cons-rest : (c : ℕ) (x y : List ℕ) → c ∷ x ≡ c ∷ y → x ≡ y
-cons-rest c x y e = cc
+cons_rest : (c : ℕ) (x y : List ℕ) → c ∷ x ≡ c ∷ y → x ≡ y
+cons_rest c x y e = cc
 
 module _ (c : ℕ) (x y : List ℕ) where
-  without-rest : (k : ℕ) → without k (c ∷ x) ≡ without k (c ∷ y) → without k x ≡ without k y
-  without-rest k e = of (eqb (class_of c) k) refl
+  without_rest : (k : ℕ) → without k (c ∷ x) ≡ without k (c ∷ y) → without k x ≡ without k y
+  without_rest k e = of (eqb (class_of c) k) refl
     where
       of : (d : Bool) → eqb (class_of c) k ≡ d → without k x ≡ without k y
       of true h = let g = eqb-true _ _ h in sym (drops k c x g) ∙ e ∙ drops k c y g
-      of false h = let g = eqb-false _ _ h in cons-rest c _ _ (sym (keeps k c x g) ∙ e ∙ keeps k c y g)
+      of false h = let g = eqb-false _ _ h in cons_rest c _ _ (sym (keeps k c x g) ∙ e ∙ keeps k c y g)
 
-  canonical-rest : canonical (c ∷ x) ≡ canonical (c ∷ y) → canonical x ≡ canonical y
-  canonical-rest e =
-      canonical-same x y (without-rest 230 (canonical-back (c ∷ x) (c ∷ y) 230 (inr refl) e))
-      (without-rest 202 (canonical-back (c ∷ x) (c ∷ y) 202 (inl refl) e))
+  canonical_rest : canonical (c ∷ x) ≡ canonical (c ∷ y) → canonical x ≡ canonical y
+  canonical_rest e =
+      canonical_same x y (without_rest 230 (canonical_back (c ∷ x) (c ∷ y) 230 (inr refl) e))
+      (without_rest 202 (canonical_back (c ∷ x) (c ∷ y) 202 (inl refl) e))
 
-  same_rest : sameBytes (canonical x) (canonical y) ≡ sameBytes (canonical (c ∷ x)) (canonical (c ∷ y))
+  same_rest : same_bytes (canonical x) (canonical y) ≡ same_bytes (canonical (c ∷ x)) (canonical (c ∷ y))
   unfolding canonical
-  same_rest = of (sameBytes (canonical x) (canonical y)) refl
+  same_rest = of (same_bytes (canonical x) (canonical y)) refl
     where
-      of : (d : Bool) → sameBytes (canonical x) (canonical y) ≡ d → d ≡ sameBytes (canonical (c ∷ x)) (canonical (c ∷ y))
-      of true h = rw (same-equal _ _ h) (sym (equal-same _))
-      of false h = unlike _ _ (λ e. let f : sameBytes (canonical x) (canonical y) ≡ true = rw (canonical-rest e) (equal-same _) in let z : ◌≡◌ {A = ℕ} 0 1 = cc in omega arith)
+      of : (d : Bool) → same_bytes (canonical x) (canonical y) ≡ d → d ≡ same_bytes (canonical (c ∷ x)) (canonical (c ∷ y))
+      of true h = rw (same_equal _ _ h) (sym (equal_same _))
+      of false h = unlike _ _ (λ e. let f : same_bytes (canonical x) (canonical y) ≡ true = rw (canonical_rest e) (equal_same _) in let z : ◌≡◌ {A = ℕ} 0 1 = cc in omega arith)
 
-same_after : (p x y : List ℕ) → sameBytes (canonical x) (canonical y) ≡ sameBytes (canonical (p ++ x)) (canonical (p ++ y))
+same_after : (p x y : List ℕ) → same_bytes (canonical x) (canonical y) ≡ same_bytes (canonical (p ++ x)) (canonical (p ++ y))
 same_after [] x y = refl
 same_after (c ∷ p) x y = same_after p x y ∙ same_rest c (p ++ x) (p ++ y)
 
 -- as the code tests it: two characters of one word of the table
-pub never : (c d : ℕ) (caseless : Bool) → ◌≡◌ {A = Bool} false true → lettersOf caseless c ≡ lettersOf caseless d
+pub never : (c d : ℕ) (caseless : Bool) → ◌≡◌ {A = Bool} false true → letters_of caseless c ≡ letters_of caseless d
 never c d caseless e = absurd (let z : ◌≡◌ {A = ℕ} 0 1 = cc in omega arith)
 
-pub alike_same : (c d : ℕ) (caseless : Bool) → c ≡ d → ◌≡◌ {A = Bool} true true → lettersOf caseless c ≡ lettersOf caseless d
-alike_same c d caseless e t = ap (lettersOf caseless) e
+pub alike_same : (c d : ℕ) (caseless : Bool) → c ≡ d → ◌≡◌ {A = Bool} true true → letters_of caseless c ≡ letters_of caseless d
+alike_same c d caseless e t = ap (letters_of caseless) e
 
-pub alike-words : (c d w v : ℕ) (caseless : Bool) → not caseless ≡ false → 0xC0 ≤ c → 0xC0 ≤ d → unpacked w ≡ lettersOf true (0xC0 + (c - 0xC0)) → unpacked v ≡ lettersOf true (0xC0 + (d - 0xC0))
-    → eqb w v ≡ true → lettersOf caseless c ≡ lettersOf caseless d
-alike-words c d w v caseless k h i e f g =
+pub alike_words : (c d w v : ℕ) (caseless : Bool) → not caseless ≡ false → 0xC0 ≤ c → 0xC0 ≤ d → unpacked w ≡ letters_of true (0xC0 + (c - 0xC0)) → unpacked v ≡ letters_of true (0xC0 + (d - 0xC0))
+    → eqb w v ≡ true → letters_of caseless c ≡ letters_of caseless d
+alike_words c d w v caseless k h i e f g =
     let p : 0xC0 + (c - 0xC0) ≡ c = omega arith in
     let q : 0xC0 + (d - 0xC0) ≡ d = omega arith in
     let m : caseless ≡ true = not-false caseless k in
-    rw m (ap (lettersOf true) (sym p) ∙ sym e ∙ ap unpacked (eqb-true w v g) ∙ f ∙ ap (lettersOf true) q)
+    rw m (ap (letters_of true) (sym p) ∙ sym e ∙ ap unpacked (eqb-true w v g) ∙ f ∙ ap (letters_of true) q)
 
-pub none-shared : (caseless : Bool) (a b : List ℕ) → Shares caseless a b 0
-none-shared caseless a b h = absurd (h refl)
+pub none_shared : (caseless : Bool) (a b : List ℕ) → Shares caseless a b 0
+none_shared caseless a b h = absurd (h refl)
 
-pub one-shared : (caseless : Bool) (a b : List ℕ) (r s : Character) (c n d m : ℕ) (t : Bool) → r ≡ characterOf a → s ≡ characterOf b → r ≡ character.At c n → s ≡ character.At d m
-    → n ≡ m → (t ≡ true → lettersOf caseless c ≡ lettersOf caseless d) → not t ≡ false → Shares caseless a b n
-one-shared caseless a b r s c n d m t u v e f k g i h =
+pub one_shared : (caseless : Bool) (a b : List ℕ) (r s : Character) (c n d m : ℕ) (t : Bool) → r ≡ character_of a → s ≡ character_of b → r ≡ character.At c n → s ≡ character.At d m
+    → n ≡ m → (t ≡ true → letters_of caseless c ≡ letters_of caseless d) → not t ≡ false → Shares caseless a b n
+one_shared caseless a b r s c n d m t u v e f k g i h =
     (c, (d, (sym e ∙ u, ((ap (character.At d) k ∙ sym f ∙ v), g (not-false t i)))))
 
 module _ (caseless : Bool) (a b : List ℕ) (i j n : ℕ) (e : Shares caseless (take (length a - i) (drop i a)) (take (length b - j) (drop j b)) n) (h : n ≡ 0 → ⊥) where
-  first : character.At (e h).0 n ≡ characterOf (drop i a)
+  first : character.At (e h).0 n ≡ character_of (drop i a)
   first = here a i _ (e h).1.1.0
 
-  second : character.At (e h).1.0 n ≡ characterOf (drop j b)
+  second : character.At (e h).1.0 n ≡ character_of (drop j b)
   second = here b j _ (e h).1.1.1.0
 
-  pub shared-fits : i < length a → i + n ≤ length a
-  shared-fits l = omega (arith, size-first (drop i a) (e h).0 n first, length-drop i a)
+  pub shared_fits : i < length a → i + n ≤ length a
+  shared_fits l = omega (arith, size_first (drop i a) (e h).0 n first, length-drop i a)
 
-  pub shared-fits-too : j < length b → j + n ≤ length b
-  shared-fits-too l = omega (arith, size-first (drop j b) (e h).1.0 n second, length-drop j b)
+  pub shared_fits_too : j < length b → j + n ≤ length b
+  shared_fits_too l = omega (arith, size_first (drop j b) (e h).1.0 n second, length-drop j b)
 
-  pub shared_goes : (whole : Bool) → sameLeft caseless a b i j ≡ whole → sameLeft caseless a b (i + n) (j + n) ≡ whole
+  pub shared_goes : (whole : Bool) → same_left caseless a b i j ≡ whole → same_left caseless a b (i + n) (j + n) ≡ whole
   shared_goes whole inv =
       rw (← drop-drop n i a, ← drop-drop n j b)
-      (same_after (lettersOf caseless (e h).0) _ _
-      ∙ ap (λ z. sameBytes (canonical (lettersOf caseless (e h).0 ++ letters caseless (drop n (drop i a)))) (canonical (z ++ letters caseless (drop n (drop j b))))) (e h).1.1.1.1
-      ∙ (rw (letters-first caseless (drop i a) (e h).0 n first, letters-first caseless (drop j b) (e h).1.0 n second) at inv))
+      (same_after (letters_of caseless (e h).0) _ _
+      ∙ ap (λ z. same_bytes (canonical (letters_of caseless (e h).0 ++ letters caseless (drop n (drop i a)))) (canonical (z ++ letters caseless (drop n (drop j b))))) (e h).1.1.1.1
+      ∙ (rw (letters_first caseless (drop i a) (e h).0 n first, letters_first caseless (drop j b) (e h).1.0 n second) at inv))
 
-  shared-less : length (letters caseless (drop (i + n) a)) < length (letters caseless (drop i a))
-  shared-less =
-      let q : length (letters caseless (drop i a)) ≡ length (lettersOf caseless (e h).0) + length (letters caseless (drop n (drop i a))) =
-      ap length (letters-first caseless (drop i a) (e h).0 n first) ∙ length-append (lettersOf caseless (e h).0) _ in
-      rw (← drop-drop n i a) (omega (arith, some-letters caseless (e h).0))
+  shared_less : length (letters caseless (drop (i + n) a)) < length (letters caseless (drop i a))
+  shared_less =
+      let q : length (letters caseless (drop i a)) ≡ length (letters_of caseless (e h).0) + length (letters caseless (drop n (drop i a))) =
+      ap length (letters_first caseless (drop i a) (e h).0 n first) ∙ length-append (letters_of caseless (e h).0) _ in
+      rw (← drop-drop n i a) (omega (arith, some_letters caseless (e h).0))
 
-  pub pass-shared : Passes caseless a b i j (passing.To (i + n) (j + n))
-  pass-shared = (shared_goes _ refl, shared-less)
+  pub pass_shared : Passes caseless a b i j (passing.To (i + n) (j + n))
+  pass_shared = (shared_goes _ refl, shared_less)
 
 -- ---- letters that both go on with
 
-pub pass-starts : (caseless : Bool) (a b : List ℕ) (i j : ℕ)
-    → sameBytes (canonical (left_of caseless a (record { at = i; pending = pending.Nothing }))) (canonical (left_of caseless b (record { at = j; pending = pending.Nothing }))) ≡ sameLeft caseless a b i j
+pub pass_starts : (caseless : Bool) (a b : List ℕ) (i j : ℕ)
+    → same_bytes (canonical (left_of caseless a (record { at = i; pending = pending.Nothing }))) (canonical (left_of caseless b (record { at = j; pending = pending.Nothing }))) ≡ same_left caseless a b i j
 unfolding left_of
-pass-starts caseless a b i j = refl
+pass_starts caseless a b i j = refl
 
-pub left-starts : (caseless : Bool) (a : List ℕ) (i : ℕ) → length (left_of caseless a (record { at = i; pending = pending.Nothing })) ≤ length (letters caseless (drop i a))
+pub left_starts : (caseless : Bool) (a : List ℕ) (i : ℕ) → length (left_of caseless a (record { at = i; pending = pending.Nothing })) ≤ length (letters caseless (drop i a))
 unfolding left_of
-left-starts caseless a i = omega arith
+left_starts caseless a i = omega arith
 
 left_at : (caseless : Bool) (a : List ℕ) (c : Cursor) → c.pending ≡ pending.Nothing → left_of caseless a c ≡ letters caseless (drop c.at a)
 unfolding left_of
@@ -212,36 +212,36 @@ left_at caseless a c e = rw e
 pub never_both : (p q : Cursor) → ◌≡◌ {A = Bool} false true → (p.pending ≡ pending.Nothing) × (q.pending ≡ pending.Nothing)
 never_both p q e = absurd (let z : ◌≡◌ {A = ℕ} 0 1 = cc in omega arith)
 
-module _ (caseless : Bool) (a b : List ℕ) (i j : ℕ) (p q : Cursor) (s t : Step) (u : stepTold caseless a s ≡ left_of caseless a p) (v : stepTold caseless b t ≡ left_of caseless b q)
-    (inv : sameBytes (canonical (left_of caseless a p)) (canonical (left_of caseless b q)) ≡ sameLeft caseless a b i j) (l : length (left_of caseless a p) ≤ length (letters caseless (drop i a)))
+module _ (caseless : Bool) (a b : List ℕ) (i j : ℕ) (p q : Cursor) (s t : Step) (u : step_told caseless a s ≡ left_of caseless a p) (v : step_told caseless b t ≡ left_of caseless b q)
+    (inv : same_bytes (canonical (left_of caseless a p)) (canonical (left_of caseless b q)) ≡ same_left caseless a b i j) (l : length (left_of caseless a p) ≤ length (letters caseless (drop i a)))
     (x y : ℕ) (after then : Cursor) (e : s ≡ step.Letter x after) (f : t ≡ step.Letter y then) (h : x ≡ y) where
   one : left_of caseless a p ≡ x ∷ left_of caseless a after
-  one = sym u ∙ ap (stepTold caseless a) e
+  one = sym u ∙ ap (step_told caseless a) e
 
   two : left_of caseless b q ≡ x ∷ left_of caseless b then
-  two = sym v ∙ ap (stepTold caseless b) f ∙ ap (◌∷ left_of caseless b then) (sym h)
+  two = sym v ∙ ap (step_told caseless b) f ∙ ap (◌∷ left_of caseless b then) (sym h)
 
-  pub letter-goes : sameBytes (canonical (left_of caseless a after)) (canonical (left_of caseless b then)) ≡ sameLeft caseless a b i j
-  letter-goes = same_rest x (left_of caseless a after) (left_of caseless b then) ∙ (rw (one, two) at inv)
+  pub letter_goes : same_bytes (canonical (left_of caseless a after)) (canonical (left_of caseless b then)) ≡ same_left caseless a b i j
+  letter_goes = same_rest x (left_of caseless a after) (left_of caseless b then) ∙ (rw (one, two) at inv)
 
-  pub letter-less : length (left_of caseless a after) < length (left_of caseless a p)
-  letter-less = omega (arith, ap length one)
+  pub letter_less : length (left_of caseless a after) < length (left_of caseless a p)
+  letter_less = omega (arith, ap length one)
 
-  pub letter-to : (d : Bool) → (d ≡ true → (after.pending ≡ pending.Nothing) × (then.pending ≡ pending.Nothing)) → d ≡ true → Passes caseless a b i j (passing.To after.at then.at)
-  letter-to d g k =
+  pub letter_to : (d : Bool) → (d ≡ true → (after.pending ≡ pending.Nothing) × (then.pending ≡ pending.Nothing)) → d ≡ true → Passes caseless a b i j (passing.To after.at then.at)
+  letter_to d g k =
       let m = left_at caseless a after (g k).0 in
       let n = left_at caseless b then (g k).1 in
-      ((rw (m, n) at letter-goes), omega (arith, letter-less, ap length m))
+      ((rw (m, n) at letter_goes), omega (arith, letter_less, ap length m))
 
-pub on-apart : (caseless : Bool) (a b : List ℕ) (i j : ℕ) (r : Passing) → Passes caseless a b i j r → r ≡ passing.Apart → (whole : Bool) → sameLeft caseless a b i j ≡ whole → false ≡ whole
-on-apart caseless a b i j r w e whole h = subst (Passes caseless a b i j) e w ∙ h
+pub on_apart : (caseless : Bool) (a b : List ℕ) (i j : ℕ) (r : Passing) → Passes caseless a b i j r → r ≡ passing.Apart → (whole : Bool) → same_left caseless a b i j ≡ whole → false ≡ whole
+on_apart caseless a b i j r w e whole h = subst (Passes caseless a b i j) e w ∙ h
 
 module _ (caseless : Bool) (a b : List ℕ) (i j : ℕ) (r : Passing) (w : Passes caseless a b i j r) (k l : ℕ) (e : r ≡ passing.To k l) where
   passes : Passes caseless a b i j (passing.To k l)
   passes = subst (Passes caseless a b i j) e w
 
-  pub on-goes : (whole : Bool) → sameLeft caseless a b i j ≡ whole → sameLeft caseless a b k l ≡ whole
-  on-goes whole h = passes.0 ∙ h
+  pub on_goes : (whole : Bool) → same_left caseless a b i j ≡ whole → same_left caseless a b k l ≡ whole
+  on_goes whole h = passes.0 ∙ h
 
-  pub on-less : length (letters caseless (drop k a)) < length (letters caseless (drop i a))
-  on-less = passes.1
+  pub on_less : length (letters caseless (drop k a)) < length (letters caseless (drop i a))
+  on_less = passes.1

@@ -1,11 +1,11 @@
 // The characters of a text.
 ghost use Rattle.std.specs.Prelude.{◌≡◌, ◌≤◌, true, length, take, get_or};
-ghost use Rattle.utf8.specs.Characters.{scalarOf};
-ghost use Rattle.keys.specs.Told.{characterOf};
+ghost use Rattle.utf8.specs.Characters.{scalar_of};
+ghost use Rattle.keys.specs.Told.{character_of};
 
 use utf8::{Piece, next};
 
-// A character, U+FFFD for an ill-formed part, and how many bytes it takes.
+// A character, U+FFFD for an ill_formed part, and how many bytes it takes.
 #[derive(Drop)]
 pub enum Character {
     End,
@@ -21,7 +21,7 @@ fn wide(x: u8) -> u32
 // The number of a sequence of n bytes.
 fn scalar(b: &[u8], n: usize) -> u32
     requires { n ≤ length b.now }
-    ensures { result ≡ scalarOf (take n b.now) }
+    ensures { result ≡ scalar_of (take n b.now) }
 {
     if n == 0 {
         return 0;
@@ -41,7 +41,7 @@ fn scalar(b: &[u8], n: usize) -> u32
 }
 
 fn by_piece(b: &[u8]) -> Character
-    ensures { result ≡ characterOf b.now }
+    ensures { result ≡ character_of b.now }
 {
     match next(b) {
         Piece::End => Character::End,
@@ -62,7 +62,7 @@ fn is_tail(x: u8) -> bool
 // Hangul's letters and most of its syllables have three bytes of a row whose second byte may be any tail.
 fn of_three(b: &[u8]) -> Character
     requires { (0xE1 ≤ get_or b.now 0 0) × (get_or b.now 0 0 ≤ 0xEC) }
-    ensures { result ≡ characterOf b.now }
+    ensures { result ≡ character_of b.now }
 {
     if b.len() < 3 {
         return by_piece(b);
@@ -78,7 +78,7 @@ fn of_three(b: &[u8]) -> Character
 
 // The rows of the characters that are covered come first, so that most are not looked for in the table.
 pub fn character_at(b: &[u8]) -> Character
-    ensures { result ≡ characterOf b.now }
+    ensures { result ≡ character_of b.now }
 {
     if b.len() < 2 {
         return by_piece(b);

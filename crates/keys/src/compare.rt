@@ -1,9 +1,9 @@
 // Two names compared by their keys, with nothing stored: without the marks above, then without the marks below.
 ghost use Rattle.std.specs.Prelude.{◌≡◌, true, ◌≤◌, ◌<◌, length, drop};
-ghost use Rattle.utf8.specs.Text.{sameBytes};
-ghost use Rattle.unicode.specs.Keys.{sameKeys};
-ghost use Rattle.unicode.specs.Stream.{lettersOf, letters, without};
-ghost use Rattle.keys.specs.Told.{Shares, sameLeft, Passes};
+ghost use Rattle.utf8.specs.Text.{same_bytes};
+ghost use Rattle.unicode_forms.specs.Keys.{same_keys};
+ghost use Rattle.unicode_forms.specs.Stream.{letters_of, letters, without};
+ghost use Rattle.keys.specs.Told.{Shares, same_left, Passes};
 ghost use Rattle.keys.specs.declared.stream.Pending.TheVariants.{Nothing};
 
 use crate::characters::{Character, character_at};
@@ -12,7 +12,7 @@ use crate::stream::{Cursor, Pending, Step, next_but, next_letter};
 
 // Whether two names have the same letters, each from a place on, those of a class left out.
 fn same_but(a: &[u8], b: &[u8], caseless: bool, i: usize, j: usize, class: u32) -> bool
-    ensures { result ≡ sameBytes (without class (letters caseless (drop i a.now))) (without class (letters caseless (drop j b.now))) }
+    ensures { result ≡ same_bytes (without class (letters caseless (drop i a.now))) (without class (letters caseless (drop j b.now))) }
 {
     let mut p = Cursor {
         at: i,
@@ -43,7 +43,7 @@ fn same_but(a: &[u8], b: &[u8], caseless: bool, i: usize, j: usize, class: u32) 
 }
 
 fn same_from(a: &[u8], b: &[u8], caseless: bool, i: usize, j: usize) -> bool
-    ensures { result ≡ sameLeft caseless a.now b.now i j }
+    ensures { result ≡ same_left caseless a.now b.now i j }
 {
     if !same_but(a, b, caseless, i, j, 230) {
         return false;
@@ -110,7 +110,7 @@ fn pass_letters(a: &[u8], b: &[u8], caseless: bool, i: usize, j: usize) -> Passi
 
 // Whether two characters are known to have the same letters: they are the same, or one in the table where case does not count.
 fn alike(c: u32, d: u32, caseless: bool) -> bool
-    ensures { result ≡ true → lettersOf caseless c ≡ lettersOf caseless d }
+    ensures { result ≡ true → letters_of caseless c ≡ letters_of caseless d }
 {
     if c == d {
         return true;
@@ -195,7 +195,7 @@ fn pass(a: &[u8], b: &[u8], caseless: bool, i: usize, j: usize) -> Passing
 
 // Both from one place on: what they share of it is passed, in whatever form.
 pub fn same_on(a: &[u8], b: &[u8], caseless: bool, at: usize) -> bool
-    ensures { result ≡ sameLeft caseless a.now b.now at at }
+    ensures { result ≡ same_left caseless a.now b.now at at }
 {
     let mut i = at;
     let mut j = at;
@@ -222,7 +222,7 @@ pub fn shorter(a: &[u8], b: &[u8]) -> usize
 
 // Whether two names have the same key on an insensitive volume. What both begin with is passed first, ASCII byte by byte.
 pub fn same_key(a: &[u8], b: &[u8], caseless: bool) -> bool
-    ensures { result ≡ sameKeys caseless a.now b.now }
+    ensures { result ≡ same_keys caseless a.now b.now }
 {
     let end = shorter(a, b);
     let mut at = 0;

@@ -1,8 +1,8 @@
 // The letters that stand for a character: its decomposition, in lower case where case does not count.
 ghost use Rattle.std.specs.Prelude.{◌≡◌, true, false, ◌+◌, ◌≤◌, ◌<◌};
-ghost use Rattle.unicode.specs.Data.{hangul};
-ghost use Rattle.unicode.specs.Stream.{smallOf, lettersOf};
-ghost use Rattle.keys.specs.Told.{expansionOf, unpacked};
+ghost use Rattle.unicode_forms.specs.Data.{hangul};
+ghost use Rattle.unicode_forms.specs.Stream.{small_of, letters_of};
+ghost use Rattle.keys.specs.Told.{expansion_of, unpacked};
 
 // The decomposition of each character from U+00C0 to U+017F: the first letter, and above 16 bits the second. A constant is built anew where it is used, so
 // nothing that is met often looks here: ASCII has its own way.
@@ -70,7 +70,7 @@ pub enum Expansion {
 
 // A word of a table.
 fn unpack(w: u32) -> Expansion
-    ensures { expansionOf result ≡ unpacked w }
+    ensures { expansion_of result ≡ unpacked w }
 {
     let second = w / 65536;
     if second == 0 {
@@ -81,21 +81,21 @@ fn unpack(w: u32) -> Expansion
 
 fn plain_word(i: u32) -> u32
     requires { i < 192 }
-    ensures { unpacked result ≡ lettersOf false (0xC0 + i) }
+    ensures { unpacked result ≡ letters_of false (0xC0 + i) }
 {
     PLAIN[i as usize]
 }
 
 pub fn folded_word(i: u32) -> u32
     requires { i < 192 }
-    ensures { unpacked result ≡ lettersOf true (0xC0 + i) }
+    ensures { unpacked result ≡ letters_of true (0xC0 + i) }
 {
     FOLDED[i as usize]
 }
 
 fn by_table(i: u32, caseless: bool) -> Expansion
     requires { i < 192 }
-    ensures { expansionOf result ≡ lettersOf caseless (0xC0 + i) }
+    ensures { expansion_of result ≡ letters_of caseless (0xC0 + i) }
 {
     if caseless {
         return unpack(folded_word(i));
@@ -106,7 +106,7 @@ fn by_table(i: u32, caseless: bool) -> Expansion
 // A character below U+00C0 in lower case where case does not count: A to Z alone are capitals.
 fn plain_letter(c: u32, caseless: bool) -> u32
     requires { c < 0xC0 }
-    ensures { result ≡ smallOf caseless c }
+    ensures { result ≡ small_of caseless c }
 {
     if !caseless {
         return c;
@@ -123,7 +123,7 @@ fn plain_letter(c: u32, caseless: bool) -> u32
 // A Hangul syllable by its number.
 fn syllable(s: u32) -> Expansion
     requires { s ≤ 11171 }
-    ensures { expansionOf result ≡ hangul s }
+    ensures { expansion_of result ≡ hangul s }
 {
     let l = 0x1100 + s / 588;
     let v = 0x1161 + s % 588 / 28;
@@ -136,7 +136,7 @@ fn syllable(s: u32) -> Expansion
 
 // An ASCII character in lower case where case does not count, any other byte as it is.
 pub fn small_letter(x: u8, caseless: bool) -> u8
-    ensures { result ≡ smallOf caseless x }
+    ensures { result ≡ small_of caseless x }
 {
     if !caseless {
         return x;
@@ -151,7 +151,7 @@ pub fn small_letter(x: u8, caseless: bool) -> u8
 }
 
 pub fn letters_of(c: u32, caseless: bool) -> Expansion
-    ensures { expansionOf result ≡ lettersOf caseless c }
+    ensures { expansion_of result ≡ letters_of caseless c }
 {
     if c < 0xC0 {
         return Expansion::One(plain_letter(c, caseless));

@@ -1,8 +1,8 @@
 // What the keys of a name and of a part of a path say.
 ghost use Rattle.std.specs.Prelude.{◌≡◌, true};
 ghost use Rattle.utf8.specs.Text.{ascii};
-ghost use Rattle.unicode.specs.Keys.{sameKeys};
-ghost use Rattle.keys.specs.Told.{keysSay, sameOr};
+ghost use Rattle.unicode_forms.specs.Keys.{same_keys};
+ghost use Rattle.keys.specs.Told.{keys_say, same_or};
 
 use crate::compare::{same_key, same_on, shorter};
 use crate::letters::small_letter;
@@ -17,7 +17,7 @@ pub enum Verdict {
 }
 
 fn same_or(same: bool) -> Verdict
-    ensures { result ≡ sameOr same }
+    ensures { result ≡ same_or same }
 {
     if same {
         return Verdict::Same;
@@ -28,7 +28,7 @@ fn same_or(same: bool) -> Verdict
 // Whether a part has the key of a name in ASCII. A letter that both have is ASCII in both, so only the first that differs is tested.
 fn same_ascii(part: &[u8], name: &[u8], caseless: bool) -> bool
     requires { ascii name.now ≡ true }
-    ensures { result ≡ sameKeys caseless part.now name.now }
+    ensures { result ≡ same_keys caseless part.now name.now }
 {
     let end = shorter(part, name);
     let mut at = 0;
@@ -48,7 +48,7 @@ fn same_ascii(part: &[u8], name: &[u8], caseless: bool) -> bool
 
 // Whether the keys are the same, on an insensitive volume; a name with a character that is not covered has none.
 pub fn keys_say(part: &[u8], name: &[u8], caseless: bool) -> Verdict
-    ensures { result ≡ keysSay caseless part.now name.now }
+    ensures { result ≡ keys_say caseless part.now name.now }
 {
     if is_ascii(name) {
         return same_or(same_ascii(part, name, caseless));

@@ -1,7 +1,7 @@
 // Whether the characters of a name lie in the ranges that keys cover.
 ghost use Rattle.std.specs.Prelude.{◌≡◌};
-ghost use Rattle.unicode.specs.Data.{covered};
-ghost use Rattle.unicode.specs.Keys.{coveredText};
+ghost use Rattle.unicode_forms.specs.Data.{covered};
+ghost use Rattle.unicode_forms.specs.Keys.{covered_text};
 
 use crate::characters::{Character, character_at};
 use utf8::is_ascii;
@@ -51,9 +51,9 @@ fn is_covered(c: u32) -> bool
     false
 }
 
-// Whether every character of a name is covered, one after the other. An ill-formed part is U+FFFD, which is not.
+// Whether every character of a name is covered, one after the other. An ill_formed part is U+FFFD, which is not.
 pub fn each_covered(b: &[u8]) -> bool
-    ensures { result ≡ coveredText b.now }
+    ensures { result ≡ covered_text b.now }
 {
     let mut at = 0;
     while at < b.len() {
@@ -76,7 +76,7 @@ pub fn each_covered(b: &[u8]) -> bool
 
 // The same, ASCII at once.
 pub fn covers(b: &[u8]) -> bool
-    ensures { result ≡ coveredText b.now }
+    ensures { result ≡ covered_text b.now }
 {
     if is_ascii(b) {
         return true;

@@ -1,11 +1,11 @@
 // A name's letters one after the other.
 ghost use Rattle.std.specs.Prelude.{◌≡◌, Bool, List, ◌++◌, ℕ, drop};
-ghost use Rattle.unicode.specs.Stream.{letters, without};
-ghost use Rattle.keys.specs.Told.{expansionOf, left_of, stepTold, butTold};
+ghost use Rattle.unicode_forms.specs.Stream.{letters, without};
+ghost use Rattle.keys.specs.Told.{expansion_of, left_of, step_told, but_told};
 
 use crate::characters::{Character, character_at};
 use crate::letters::{Expansion, letters_of, small_letter};
-use unicode::class_of;
+use unicode_forms::class_of;
 
 // Letters of a character that are still to come.
 #[derive(Drop)]
@@ -30,7 +30,7 @@ pub enum Step {
 
 // The first letter of some, before the characters from a place on.
 fn opened(e: Expansion, at: usize) -> Step
-    ensures { (caseless : Bool) (b : List ℕ) → stepTold caseless b result ≡ expansionOf e ++ letters caseless (drop at b) }
+    ensures { (caseless : Bool) (b : List ℕ) → step_told caseless b result ≡ expansion_of e ++ letters caseless (drop at b) }
 {
     match e {
         Expansion::One(x) => Step::Letter(
@@ -58,7 +58,7 @@ fn opened(e: Expansion, at: usize) -> Step
 }
 
 fn first_letter(b: &[u8], caseless: bool, at: usize) -> Step
-    ensures { stepTold caseless b.now result ≡ letters caseless (drop at b.now) }
+    ensures { step_told caseless b.now result ≡ letters caseless (drop at b.now) }
 {
     if b.len() <= at {
         return Step::End;
@@ -80,7 +80,7 @@ fn first_letter(b: &[u8], caseless: bool, at: usize) -> Step
 }
 
 pub fn next_letter(b: &[u8], caseless: bool, c: Cursor) -> Step
-    ensures { stepTold caseless b.now result ≡ left_of caseless b.now c }
+    ensures { step_told caseless b.now result ≡ left_of caseless b.now c }
 {
     let pending = c.pending;
     match pending {
@@ -104,7 +104,7 @@ pub fn next_letter(b: &[u8], caseless: bool, c: Cursor) -> Step
 
 // The next letter that is not of a class.
 pub fn next_but(b: &[u8], caseless: bool, c: Cursor, class: u32) -> Step
-    ensures { butTold class caseless b.now result ≡ without class (left_of caseless b.now c) }
+    ensures { but_told class caseless b.now result ≡ without class (left_of caseless b.now c) }
 {
     let mut cursor = c;
     loop {

@@ -1,8 +1,8 @@
 // The label of a volume (nx.rs, the `name` of `ApfsSuperblock`).
 ghost use Rattle.std.specs.Prelude.{◌≡◌};
-ghost use Rattle.label.specs.Label.{label_of, labelReading};
+ghost use Rattle.label.specs.Label.{label_of, label_reading};
 
-use bytes::{Span, cstr, part};
+use byte_fields::{Span, cstr, part};
 use utf8::replaced_parts;
 use volume::Volume;
 
@@ -21,7 +21,7 @@ pub fn label_of(image: &[u8], v: Volume) -> &[u8]
 
 // How many parts of it the lossy reading replaces.
 pub fn label_replaced(image: &[u8], v: Volume) -> u64
-    ensures { result ≡ (labelReading image.now v).replaced }
+    ensures { result ≡ (label_reading image.now v).replaced }
 {
     replaced_parts(label_of(image, v)) as u64
 }

@@ -1,45 +1,45 @@
 -- The leaves' answers as numbers, for the host. Nothing here is of the papers: how an answer is passed on is ours.
 use Rattle.std.specs.Prelude.{ℕ, ◌+◌, Bool, true, false, not, List, eqb}
-use Rattle.error.specs.Answer.{Answer, got, no, number_of, ifEq}
-use Rattle.bytes.specs.Number.{number_at}
+use Rattle.error.specs.Answer.{Answer, got, no, number_of, if_eq}
+use Rattle.byte_fields.specs.Number.{number_at}
 use Rattle.obj.specs.Header.{kind_of}
 use Rattle.obj.specs.declared.header.ObjHeader.{ObjHeader}
 use Rattle.utf8.specs.declared.Piece.{Piece}
 use Rattle.utf8.specs.declared.Piece.TheVariants.{End, WellFormed, IllFormed}
 
-abbrev pub valueOr : ℕ → Answer ℕ → ℕ
-valueOr other (got x) = x
-valueOr other (no e) = other
+abbrev pub value_or : ℕ → Answer ℕ → ℕ
+value_or other (got x) = x
+value_or other (no e) = other
 
-abbrev pub refusalIn : {A : Type 0} → Answer A → ℕ
-refusalIn (got x) = 0
-refusalIn (no e) = number_of e
+abbrev pub refusal_in : {A : Type 0} → Answer A → ℕ
+refusal_in (got x) = 0
+refusal_in (no e) = number_of e
 
-abbrev pub oneIf : Bool → ℕ
-oneIf true = 1
-oneIf false = 0
+abbrev pub one_if : Bool → ℕ
+one_if true = 1
+one_if false = 0
 
-abbrev pub isNot0 : ℕ → Bool
-isNot0 n = not (eqb n 0)
+abbrev pub is_not0 : ℕ → Bool
+is_not0 n = not (eqb n 0)
 
 unfoldable pub field_at : List ℕ → ℕ → ℕ → Answer ℕ
 field_at b off width =
-    ifEq width 2 (number_at 2 b off) (ifEq width 4 (number_at 4 b off) (ifEq width 8 (number_at 8 b off) (got 0)))
+    if_eq width 2 (number_at 2 b off) (if_eq width 4 (number_at 4 b off) (if_eq width 8 (number_at 8 b off) (got 0)))
 
-abbrev pub pieceNumber : Piece → ℕ
-pieceNumber End = 0
-pieceNumber (WellFormed n) = n
-pieceNumber (IllFormed n) = 256 + n
+abbrev pub piece_number : Piece → ℕ
+piece_number End = 0
+piece_number (WellFormed n) = n
+piece_number (IllFormed n) = 256 + n
 
 unfoldable pub field_of : ℕ → ObjHeader → ℕ
 field_of n h =
-    ifEq n 0 h.cksum
-    (ifEq n 1 h.oid
-    (ifEq n 2 h.xid
-    (ifEq n 3 h.obj_type
-    (ifEq n 4 h.subtype
-    (ifEq n 5 (kind_of h) 0)))))
+    if_eq n 0 h.cksum
+    (if_eq n 1 h.oid
+    (if_eq n 2 h.xid
+    (if_eq n 3 h.obj_type
+    (if_eq n 4 h.subtype
+    (if_eq n 5 (kind_of h) 0)))))
 
-abbrev pub headerField : ℕ → Answer ObjHeader → ℕ
-headerField n (got h) = field_of n h
-headerField n (no e) = 0
+abbrev pub header_field : ℕ → Answer ObjHeader → ℕ
+header_field n (got h) = field_of n h
+header_field n (no e) = 0

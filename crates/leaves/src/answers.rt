@@ -1,14 +1,14 @@
 // Answers as numbers.
 ghost use Rattle.std.specs.Prelude.{◌≡◌};
-ghost use Rattle.bytes.specs.Number.{told};
-ghost use Rattle.bytes.specs.Part.{sliced};
-ghost use Rattle.leaves.specs.Leaves.{valueOr, refusalIn, oneIf};
+ghost use Rattle.byte_fields.specs.Number.{told};
+ghost use Rattle.byte_fields.specs.Part.{sliced};
+ghost use Rattle.leaves.specs.Leaves.{value_or, refusal_in, one_if};
 
-use bytes::{Number, Sliced};
+use byte_fields::{Number, Sliced};
 use error::number_of;
 
 pub fn value_or(n: Number, otherwise: u64) -> u64
-    ensures { result ≡ valueOr otherwise (told n) }
+    ensures { result ≡ value_or otherwise (told n) }
 {
     match n {
         Number::Got(x) => x,
@@ -17,7 +17,7 @@ pub fn value_or(n: Number, otherwise: u64) -> u64
 }
 
 pub fn refusal_in(n: Number) -> u64
-    ensures { result ≡ refusalIn (told n) }
+    ensures { result ≡ refusal_in (told n) }
 {
     match n {
         Number::Got(_) => 0,
@@ -26,7 +26,7 @@ pub fn refusal_in(n: Number) -> u64
 }
 
 pub fn span_refusal(s: Sliced) -> u64
-    ensures { result ≡ refusalIn (sliced s) }
+    ensures { result ≡ refusal_in (sliced s) }
 {
     match s {
         Sliced::Got(_) => 0,
@@ -35,7 +35,7 @@ pub fn span_refusal(s: Sliced) -> u64
 }
 
 pub fn one_if(x: bool) -> u64
-    ensures { result ≡ oneIf x }
+    ensures { result ≡ one_if x }
 {
     if x {
         return 1;

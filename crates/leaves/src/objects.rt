@@ -1,10 +1,10 @@
 // checksum.rs, obj.rs and dev.rs.
 ghost use Rattle.std.specs.Prelude.{◌≡◌, length};
 ghost use Rattle.error.specs.declared.Refusal.TheVariants.{Io};
-ghost use Rattle.bytes.specs.Part.{spanAt};
+ghost use Rattle.byte_fields.specs.Part.{span_at};
 ghost use Rattle.checksum.specs.Fletcher.{checksum, valid};
 ghost use Rattle.obj.specs.Header.{header_at};
-ghost use Rattle.leaves.specs.Leaves.{headerField, field_of, refusalIn, oneIf};
+ghost use Rattle.leaves.specs.Leaves.{header_field, field_of, refusal_in, one_if};
 
 use crate::answers::{one_if, span_refusal};
 use error::number_of;
@@ -19,7 +19,7 @@ pub extern "C" fn leaf_compute(object: &[u8]) -> u64
 
 #[unsafe(no_mangle)]
 pub extern "C" fn leaf_verify(object: &[u8]) -> u64
-    ensures { result ≡ oneIf (valid object.now) }
+    ensures { result ≡ one_if (valid object.now) }
 {
     one_if(checksum::verify(object))
 }
@@ -51,7 +51,7 @@ fn field_of(h: ObjHeader, field: u64) -> u64
 
 #[unsafe(no_mangle)]
 pub extern "C" fn leaf_header(b: &[u8], field: u64) -> u64
-    ensures { result ≡ headerField field (header_at b.now) }
+    ensures { result ≡ header_field field (header_at b.now) }
 {
     match obj::parse(b) {
         Parsed::Got(h) => field_of(h, field),
@@ -61,7 +61,7 @@ pub extern "C" fn leaf_header(b: &[u8], field: u64) -> u64
 
 #[unsafe(no_mangle)]
 pub extern "C" fn leaf_header_refused(b: &[u8]) -> u64
-    ensures { result ≡ refusalIn (header_at b.now) }
+    ensures { result ≡ refusal_in (header_at b.now) }
 {
     match obj::parse(b) {
         Parsed::Got(_) => 0,
@@ -71,7 +71,7 @@ pub extern "C" fn leaf_header_refused(b: &[u8]) -> u64
 
 #[unsafe(no_mangle)]
 pub extern "C" fn leaf_read_at(image: &[u8], off: u64, len: usize) -> u64
-    ensures { result ≡ refusalIn (spanAt Io (length image.now) off len) }
+    ensures { result ≡ refusal_in (span_at Io (length image.now) off len) }
 {
     span_refusal(obj::read_at(image, off, len))
 }

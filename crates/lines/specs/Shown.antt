@@ -5,9 +5,9 @@ use Rattle.std.proofs.Math.Option.{Option, none, some}
 use Rattle.utf8.specs.Text.{lossy}
 use Rattle.obj.specs.declared.reader.Reader.{Reader}
 use Rattle.node.specs.declared.place.Place.{Place}
-use Rattle.records.specs.Attribute.{attributeName}
-use Rattle.records.specs.Directory.{entryName}
-use Rattle.inode_record.specs.Inode.{inodeName}
+use Rattle.records.specs.Attribute.{attribute_name}
+use Rattle.records.specs.Directory.{entry_name}
+use Rattle.inode_record.specs.Inode.{inode_name}
 use Rattle.records.specs.declared.attribute.Attribute.{Attribute}
 use Rattle.records.specs.declared.attribute.AttributeData.{AttributeData}
 use Rattle.records.specs.declared.attribute.AttributeData.TheVariants.{Embedded, Stream}
@@ -61,18 +61,18 @@ pub data Contents : Type 0 where
   plain : List ℕ → Contents
 
 -- "`-` is absent"
-abbrev pub nameShown : Reader → List ℕ → Place → NameField → Option (List ℕ)
-nameShown r b p name.Absent = none
-nameShown r b p (name.At n) = some (lossy (inodeName r b p n))
+abbrev pub name_shown : Reader → List ℕ → Place → NameField → Option (List ℕ)
+name_shown r b p name.Absent = none
+name_shown r b p (name.At n) = some (lossy (inode_name r b p n))
 
 -- "STREAM is size, comma, allocated size"
-abbrev pub streamShown : StreamField → Option (ℕ × ℕ)
-streamShown stream.Absent = none
-streamShown (stream.At d) = some (d.size, d.alloced_size)
+abbrev pub stream_shown : StreamField → Option (ℕ × ℕ)
+stream_shown stream.Absent = none
+stream_shown (stream.At d) = some (d.size, d.alloced_size)
 
 -- what a node's line shows: "inode fields are those on the node's line"
-unfoldable pub inodeShown : Reader → List ℕ → Inode → InodeShown
-inodeShown r b i = record {
+unfoldable pub inode_shown : Reader → List ℕ → Inode → InodeShown
+inode_shown r b i = record {
   id = i.id;
   parent = i.ids.parent;
   own = i.ids.private_id;
@@ -86,19 +86,19 @@ inodeShown r b i = record {
   owner = i.owner.owner;
   group = i.owner.group;
   mode = i.owner.mode;
-  label = nameShown r b i.place i.fields.name;
-  stream = streamShown i.fields.stream;
+  label = name_shown r b i.place i.fields.name;
+  stream = stream_shown i.fields.stream;
 }
 
 -- "KIND is the stored 4-bit kind", "LABEL and NAME are lossy readings"
-unfoldable pub entryShown : Reader → List ℕ → Entry → EntryShown
-entryShown r b e = record { id = e.file_id; date_added = e.date_added; kind = e.kind; label = lossy (entryName r b e) }
+unfoldable pub entry_shown : Reader → List ℕ → Entry → EntryShown
+entry_shown r b e = record { id = e.file_id; date_added = e.date_added; kind = e.kind; label = lossy (entry_name r b e) }
 
 -- "`(attr FLAGS NAME e DATA)` or `(attr FLAGS NAME s OBJECT DATA)`"
-abbrev pub formShown : AttributeData → Form
-formShown (Embedded s) = embedded
-formShown (Stream d) = streamed d.object
+abbrev pub form_shown : AttributeData → Form
+form_shown (Embedded s) = embedded
+form_shown (Stream d) = streamed d.object
 
 -- with contents c: "each attribute with the contents of its own record or stream"
-unfoldable pub attributeShown : {C : Type 0} → Reader → List ℕ → Attribute → C → AttributeShown C
-attributeShown r b a c = record { flags = a.flags; label = lossy (attributeName r b a); form = formShown a.contents; contents = c }
+unfoldable pub attribute_shown : {C : Type 0} → Reader → List ℕ → Attribute → C → AttributeShown C
+attribute_shown r b a c = record { flags = a.flags; label = lossy (attribute_name r b a); form = form_shown a.contents; contents = c }

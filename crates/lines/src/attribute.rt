@@ -1,21 +1,21 @@
 // The line of an attribute.
 ghost use Rattle.std.specs.Prelude.{◌≡◌, []};
 ghost use Rattle.utf8.specs.Text.{lossy};
-ghost use Rattle.text.specs.Output.{outputOf, puts};
-ghost use Rattle.records.specs.Attribute.{attributeName, attributeBytes};
-ghost use Rattle.lines.specs.Shown.{formShown, attributeShown};
-ghost use Rattle.lines.specs.Lines.{attributeLine};
-ghost use Rattle.lines.specs.Inner.{formHead, attributeHead};
+ghost use Rattle.text.specs.Output.{output_of, puts};
+ghost use Rattle.records.specs.Attribute.{attribute_name, attribute_bytes};
+ghost use Rattle.lines.specs.Shown.{form_shown, attribute_shown};
+ghost use Rattle.lines.specs.Lines.{attribute_line};
+ghost use Rattle.lines.specs.Inner.{form_head, attribute_head};
 
 use crate::word::{put_name, put_number};
-use bytes::Span;
+use byte_fields::Span;
 use obj::Reader;
 use records::{Attribute, AttributeData, StreamData, attribute_bytes, attribute_name};
 use text::{Position, put_all, put_hex};
 
 // Where the contents stand, up to their first digit.
 fn put_form(out: &mut [u8], room: usize, p: Position, contents: AttributeData) -> Position
-    ensures { outputOf result out.new ≡ puts room (formHead (formShown contents) []) (outputOf p out.old) }
+    ensures { output_of result out.new ≡ puts room (form_head (form_shown contents) []) (output_of p out.old) }
 {
     match contents {
         AttributeData::Embedded(_) => put_all(out, room, p, b" e x"),
@@ -36,7 +36,7 @@ pub fn put_attribute_head(
     reader: Reader,
     a: Attribute,
 ) -> Position
-    ensures { outputOf result out.new ≡ puts room (attributeHead a.flags (lossy (attributeName reader image.now a)) (formShown a.contents) []) (outputOf p out.old) }
+    ensures { output_of result out.new ≡ puts room (attribute_head a.flags (lossy (attribute_name reader image.now a)) (form_shown a.contents) []) (output_of p out.old) }
 {
     let b = put_all(out, room, p, b"(attr");
     let c = put_number(out, room, b, a.flags as u64);
@@ -55,7 +55,7 @@ pub fn put_attribute_embedded(
     a: Attribute,
     span: Span,
 ) -> Position
-    ensures { outputOf result out.new ≡ puts room (attributeLine (attributeShown reader image.now a (attributeBytes reader image.now a.place span)) []) (outputOf p out.old) }
+    ensures { output_of result out.new ≡ puts room (attribute_line (attribute_shown reader image.now a (attribute_bytes reader image.now a.place span)) []) (output_of p out.old) }
 {
     let place = a.place;
     let b = put_attribute_head(out, room, p, image, reader, a);

@@ -1,10 +1,10 @@
 // The line of a node.
 ghost use Rattle.std.specs.Prelude.{◌≡◌, [], ◌∷◌};
-ghost use Rattle.text.specs.Output.{outputOf, puts};
+ghost use Rattle.text.specs.Output.{output_of, puts};
 ghost use Rattle.text.specs.Words.{bytes?, two?, words};
-ghost use Rattle.lines.specs.Shown.{nameShown, streamShown, inodeShown};
-ghost use Rattle.lines.specs.Inner.{timeWords, ownerWords, nodeHead};
-ghost use Rattle.lines.specs.Lines.{nodeLine};
+ghost use Rattle.lines.specs.Shown.{name_shown, stream_shown, inode_shown};
+ghost use Rattle.lines.specs.Inner.{time_words, owner_words, node_head};
+ghost use Rattle.lines.specs.Lines.{node_line};
 
 use crate::word::{put_name, put_number, put_pair, put_signed_number, put_three};
 use inode_record::{Inode, NameField, Owner, StreamField, Times, inode_name};
@@ -13,7 +13,7 @@ use obj::Reader;
 use text::{Position, put_all, put_byte};
 
 fn put_times(out: &mut [u8], room: usize, p: Position, t: Times) -> Position
-    ensures { outputOf result out.new ≡ puts room (timeWords t []) (outputOf p out.old) }
+    ensures { output_of result out.new ≡ puts room (time_words t []) (output_of p out.old) }
 {
     let a = put_number(out, room, p, t.create);
     let b = put_number(out, room, a, t.modify);
@@ -22,7 +22,7 @@ fn put_times(out: &mut [u8], room: usize, p: Position, t: Times) -> Position
 }
 
 fn put_owner(out: &mut [u8], room: usize, p: Position, o: Owner) -> Position
-    ensures { outputOf result out.new ≡ puts room (ownerWords o []) (outputOf p out.old) }
+    ensures { output_of result out.new ≡ puts room (owner_words o []) (output_of p out.old) }
 {
     let a = put_number(out, room, p, o.internal_flags);
     let b = put_signed_number(out, room, a, o.links);
@@ -32,7 +32,7 @@ fn put_owner(out: &mut [u8], room: usize, p: Position, o: Owner) -> Position
 
 // What comes before the name.
 fn put_head(out: &mut [u8], room: usize, p: Position, inode: Inode) -> Position
-    ensures { outputOf result out.new ≡ puts room (nodeHead inode []) (outputOf p out.old) }
+    ensures { output_of result out.new ≡ puts room (node_head inode []) (output_of p out.old) }
 {
     let ids = inode.ids;
     let times = inode.times;
@@ -52,7 +52,7 @@ fn put_label(
     place: Place,
     name: NameField,
 ) -> Position
-    ensures { outputOf result out.new ≡ puts room (words (bytes? (nameShown reader image.now place name) ∷ []) []) (outputOf p out.old) }
+    ensures { output_of result out.new ≡ puts room (words (bytes? (name_shown reader image.now place name) ∷ []) []) (output_of p out.old) }
 {
     match name {
         NameField::Absent => put_all(out, room, p, b" -"),
@@ -61,7 +61,7 @@ fn put_label(
 }
 
 fn put_stream(out: &mut [u8], room: usize, p: Position, stream: StreamField) -> Position
-    ensures { outputOf result out.new ≡ puts room (words (two? (streamShown stream) ∷ []) []) (outputOf p out.old) }
+    ensures { output_of result out.new ≡ puts room (words (two? (stream_shown stream) ∷ []) []) (output_of p out.old) }
 {
     match stream {
         StreamField::Absent => put_all(out, room, p, b" -"),
@@ -77,7 +77,7 @@ pub fn put_node_line(
     reader: Reader,
     inode: Inode,
 ) -> Position
-    ensures { outputOf result out.new ≡ puts room (nodeLine (inodeShown reader image.now inode) []) (outputOf p out.old) }
+    ensures { output_of result out.new ≡ puts room (node_line (inode_shown reader image.now inode) []) (output_of p out.old) }
 {
     let place = inode.place;
     let fields = inode.fields;

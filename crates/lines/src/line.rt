@@ -1,10 +1,10 @@
 // The lines of a volume, a directory entry, an extent and a listing's totals.
 ghost use Rattle.std.specs.Prelude.{◌≡◌, [], ◌∷◌};
 ghost use Rattle.utf8.specs.Text.{lossy};
-ghost use Rattle.text.specs.Output.{outputOf, puts};
+ghost use Rattle.text.specs.Output.{output_of, puts};
 ghost use Rattle.text.specs.Words.{digits, words};
-ghost use Rattle.lines.specs.Shown.{entryShown};
-ghost use Rattle.lines.specs.Lines.{bit, volumeLine, entryLine, extentLine, totalLine};
+ghost use Rattle.lines.specs.Shown.{entry_shown};
+ghost use Rattle.lines.specs.Lines.{bit, volume_line, entry_line, extent_line, total_line};
 
 use crate::word::{put_name, put_number, put_three};
 use obj::Reader;
@@ -27,7 +27,7 @@ fn put_rule(
     case_insensitive: bool,
     normalization_insensitive: bool,
 ) -> Position
-    ensures { outputOf result out.new ≡ puts room (words (digits (bit case_insensitive) ∷ digits (bit normalization_insensitive) ∷ []) []) (outputOf p out.old) }
+    ensures { output_of result out.new ≡ puts room (words (digits (bit case_insensitive) ∷ digits (bit normalization_insensitive) ∷ []) []) (output_of p out.old) }
 {
     let q = put_number(out, room, p, bit_of(case_insensitive));
     put_number(out, room, q, bit_of(normalization_insensitive))
@@ -42,7 +42,7 @@ pub fn put_volume_line(
     normalization_insensitive: bool,
     label: &[u8],
 ) -> Position
-    ensures { outputOf result out.new ≡ puts room (volumeLine case_insensitive normalization_insensitive (lossy label.now) []) (outputOf p out.old) }
+    ensures { output_of result out.new ≡ puts room (volume_line case_insensitive normalization_insensitive (lossy label.now) []) (output_of p out.old) }
 {
     let a = put_all(out, room, p, b"(volume");
     let b = put_rule(out, room, a, case_insensitive, normalization_insensitive);
@@ -58,7 +58,7 @@ pub fn put_entry_line(
     reader: Reader,
     e: Entry,
 ) -> Position
-    ensures { outputOf result out.new ≡ puts room (entryLine (entryShown reader image.now e) []) (outputOf p out.old) }
+    ensures { output_of result out.new ≡ puts room (entry_line (entry_shown reader image.now e) []) (output_of p out.old) }
 {
     let a = put_all(out, room, p, b"(entry");
     let b = put_three(out, room, a, e.file_id, e.date_added, e.kind as u64);
@@ -67,7 +67,7 @@ pub fn put_entry_line(
 }
 
 pub fn put_extent_line(out: &mut [u8], room: usize, p: Position, e: Extent) -> Position
-    ensures { outputOf result out.new ≡ puts room (extentLine e []) (outputOf p out.old) }
+    ensures { output_of result out.new ≡ puts room (extent_line e []) (output_of p out.old) }
 {
     let a = put_all(out, room, p, b"(extent");
     let b = put_three(out, room, a, e.logical, e.len, e.phys_block);
@@ -82,7 +82,7 @@ pub fn put_total_line(
     bytes: u64,
     attrs: u64,
 ) -> Position
-    ensures { outputOf result out.new ≡ puts room (totalLine nodes bytes attrs []) (outputOf p out.old) }
+    ensures { output_of result out.new ≡ puts room (total_line nodes bytes attrs []) (output_of p out.old) }
 {
     let a = put_all(out, room, p, b"(total");
     let b = put_three(out, room, a, nodes, bytes, attrs);

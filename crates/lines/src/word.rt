@@ -2,13 +2,13 @@
 ghost use Rattle.std.specs.Prelude.{◌≡◌, [], ◌∷◌};
 ghost use Rattle.std.proofs.Math.Option.{some};
 ghost use Rattle.utf8.specs.Text.{lossy};
-ghost use Rattle.text.specs.Output.{outputOf, puts};
+ghost use Rattle.text.specs.Output.{output_of, puts};
 ghost use Rattle.text.specs.Words.{digits, signed, bytes, two?, words};
 
 use text::{Position, put_all, put_byte, put_decimal, put_lossy_hex, put_signed};
 
 pub fn put_number(out: &mut [u8], room: usize, p: Position, n: u64) -> Position
-    ensures { outputOf result out.new ≡ puts room (words (digits n ∷ []) []) (outputOf p out.old) }
+    ensures { output_of result out.new ≡ puts room (words (digits n ∷ []) []) (output_of p out.old) }
 {
     let q = put_byte(out, room, p, b' ');
     put_decimal(out, room, q, n)
@@ -16,21 +16,21 @@ pub fn put_number(out: &mut [u8], room: usize, p: Position, n: u64) -> Position
 
 // The lossy reading of a name.
 pub fn put_name(out: &mut [u8], room: usize, p: Position, name: &[u8]) -> Position
-    ensures { outputOf result out.new ≡ puts room (words (bytes (lossy name.now) ∷ []) []) (outputOf p out.old) }
+    ensures { output_of result out.new ≡ puts room (words (bytes (lossy name.now) ∷ []) []) (output_of p out.old) }
 {
     let q = put_all(out, room, p, b" x");
     put_lossy_hex(out, room, q, name)
 }
 
 pub fn put_signed_number(out: &mut [u8], room: usize, p: Position, n: i32) -> Position
-    ensures { outputOf result out.new ≡ puts room (words (signed n ∷ []) []) (outputOf p out.old) }
+    ensures { output_of result out.new ≡ puts room (words (signed n ∷ []) []) (output_of p out.old) }
 {
     let q = put_byte(out, room, p, b' ');
     put_signed(out, room, q, n)
 }
 
 pub fn put_three(out: &mut [u8], room: usize, p: Position, l: u64, m: u64, n: u64) -> Position
-    ensures { outputOf result out.new ≡ puts room (words (digits l ∷ digits m ∷ digits n ∷ []) []) (outputOf p out.old) }
+    ensures { output_of result out.new ≡ puts room (words (digits l ∷ digits m ∷ digits n ∷ []) []) (output_of p out.old) }
 {
     let a = put_number(out, room, p, l);
     let b = put_number(out, room, a, m);
@@ -39,7 +39,7 @@ pub fn put_three(out: &mut [u8], room: usize, p: Position, l: u64, m: u64, n: u6
 
 // Two numbers with a comma between them.
 pub fn put_pair(out: &mut [u8], room: usize, p: Position, m: u64, n: u64) -> Position
-    ensures { outputOf result out.new ≡ puts room (words (two? (some (m, n)) ∷ []) []) (outputOf p out.old) }
+    ensures { output_of result out.new ≡ puts room (words (two? (some (m, n)) ∷ []) []) (output_of p out.old) }
 {
     let a = put_number(out, room, p, m);
     let b = put_byte(out, room, a, b',');

@@ -1,12 +1,12 @@
 // The bytes of an attribute, and the text of a symbolic link (fs.rs, `read_xattr`, `read_link`).
 ghost use Rattle.std.specs.Prelude.{◌≡◌};
-ghost use Rattle.calls.specs.Filled.{answered, writtenTold};
-ghost use Rattle.links.specs.Link.{contentsOf, link_of};
-ghost use Rattle.links.specs.Inner.{readContents};
+ghost use Rattle.calls.specs.Filled.{answered, written_told};
+ghost use Rattle.links.specs.Link.{contents_of, link_of};
+ghost use Rattle.links.specs.Inner.{read_contents};
 
 use crate::named::attribute_named;
 use crate::target::{settle_contents, show};
-use bytes::Number;
+use byte_fields::Number;
 use calls::Written;
 use error::Refusal;
 use extents::Ruling;
@@ -24,7 +24,7 @@ fn read_contents(
     out: &mut [u8],
     nodes: u64,
 ) -> Written
-    ensures { writtenTold result out.new ≡ answered (readContents raw image.now v a nodes) out.old }
+    ensures { written_told result out.new ≡ answered (read_contents raw image.now v a nodes) out.old }
 {
     let s = settle_contents(image, v, a, nodes);
     let ruling = s.ruling;
@@ -42,13 +42,13 @@ fn read_contents(
 
 // The bytes as they are.
 pub fn read_xattr(image: &[u8], v: Volume, a: Attribute, out: &mut [u8], nodes: u64) -> Written
-    ensures { writtenTold result out.new ≡ answered (contentsOf image.now v a nodes) out.old }
+    ensures { written_told result out.new ≡ answered (contents_of image.now v a nodes) out.old }
 {
     read_contents(image, v, a, true, out, nodes)
 }
 
 pub fn read_link(image: &[u8], v: Volume, inode: Inode, out: &mut [u8], nodes: u64) -> Written
-    ensures { writtenTold result out.new ≡ answered (link_of image.now v inode nodes) out.old }
+    ensures { written_told result out.new ≡ answered (link_of image.now v inode nodes) out.old }
 {
     let f = attribute_named(image, v, inode.id, b"com.apple.fs.symlink", nodes);
     let found = f.attribute;

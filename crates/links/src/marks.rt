@@ -1,17 +1,17 @@
 // How many parts of a link's text were replaced: document 02, request 02.
 ghost use Rattle.std.specs.Prelude.{◌≡◌, true};
-ghost use Rattle.bytes.specs.Part.{upToZero};
-ghost use Rattle.text.specs.Output.{at, outputOf, puts};
-ghost use Rattle.feed.specs.Fed.{writtenAs};
-ghost use Rattle.streams.specs.Streams.{streamOf};
-ghost use Rattle.streams.specs.Inner.{streamBytes};
-ghost use Rattle.links.specs.Link.{contentsOf, linkReading, replacedOf, numbered};
-ghost use Rattle.links.specs.Inner.{countedIn};
+ghost use Rattle.byte_fields.specs.Part.{up_to_zero};
+ghost use Rattle.text.specs.Output.{at, output_of, puts};
+ghost use Rattle.feed.specs.Fed.{written_as};
+ghost use Rattle.streams.specs.Streams.{stream_of};
+ghost use Rattle.streams.specs.Inner.{stream_bytes};
+ghost use Rattle.links.specs.Link.{contents_of, link_reading, replaced_of, numbered};
+ghost use Rattle.links.specs.Inner.{counted_in};
 
 use crate::named::attribute_named;
 use crate::pour::push_stream;
 use crate::raw::{feed_begin, feed_end};
-use bytes::{Number, cstr};
+use byte_fields::{Number, cstr};
 use calls::{Written, number_at};
 use error::Refusal;
 use extents::Ruling;
@@ -34,7 +34,7 @@ fn put_marks(
     size: u64,
     nodes: u64,
 ) -> Position
-    ensures { outputOf result out.new ≡ puts 18446744073709551615 (writtenAs true (upToZero (streamBytes image.now v object size nodes))) (at out.old 0) }
+    ensures { output_of result out.new ≡ puts 18446744073709551615 (written_as true (up_to_zero (stream_bytes image.now v object size nodes))) (at out.old 0) }
 {
     let f = feed_begin(false, true);
     let g = push_stream(out, ROOM, false, f, image, v, object, size, nodes);
@@ -43,7 +43,7 @@ fn put_marks(
 
 // No mark is stored: there are no more of them than the stream has bytes.
 fn stream_replaced(image: &[u8], v: Volume, object: u64, size: u64, nodes: u64) -> Written
-    ensures { numbered result ≡ countedIn (streamOf image.now v object size nodes) }
+    ensures { numbered result ≡ counted_in (stream_of image.now v object size nodes) }
 {
     let s = settle_stream(image, v, object, size, nodes);
     let ruling = s.ruling;
@@ -63,7 +63,7 @@ fn stream_replaced(image: &[u8], v: Volume, object: u64, size: u64, nodes: u64) 
 }
 
 fn contents_replaced(image: &[u8], v: Volume, a: Attribute, nodes: u64) -> Written
-    ensures { numbered result ≡ countedIn (contentsOf image.now v a nodes) }
+    ensures { numbered result ≡ counted_in (contents_of image.now v a nodes) }
 {
     let reader = v.reader;
     let place = a.place;
@@ -82,7 +82,7 @@ fn contents_replaced(image: &[u8], v: Volume, a: Attribute, nodes: u64) -> Writt
 
 // Of a symbolic link's text.
 pub fn link_replaced(image: &[u8], v: Volume, inode: Inode, nodes: u64) -> Written
-    ensures { numbered result ≡ replacedOf (linkReading image.now v inode nodes) }
+    ensures { numbered result ≡ replaced_of (link_reading image.now v inode nodes) }
 {
     let f = attribute_named(image, v, inode.id, b"com.apple.fs.symlink", nodes);
     let found = f.attribute;

@@ -1,8 +1,8 @@
 // The first attribute of a name (fs.rs, `xattr`).
 ghost use Rattle.std.specs.Prelude.{◌≡◌};
-ghost use Rattle.lists.specs.Told.{attributePlaced, attributeFound};
-ghost use Rattle.links.specs.Named.{hasName, attributeNamed};
-ghost use Rattle.links.specs.Inner.{keptNamed};
+ghost use Rattle.lists.specs.Told.{attribute_placed, attribute_found};
+ghost use Rattle.links.specs.Named.{has_name, attribute_named};
+ghost use Rattle.links.specs.Inner.{kept_named};
 
 use cursor::{first, next};
 use lists::{AttributeAt, AttributeFound, AttributeIn, attribute_in, search};
@@ -21,7 +21,7 @@ fn found(x: AttributeAt, nodes: u64) -> AttributeFound
 }
 
 fn has_name(reader: Reader, image: &[u8], name: &[u8], a: Attribute) -> bool
-    ensures { result ≡ hasName reader image.now name.now a }
+    ensures { result ≡ has_name reader image.now name.now a }
 {
     reads_as(attribute_name(reader, image, a), name)
 }
@@ -34,7 +34,7 @@ fn kept_with(
     name: &[u8],
     a: Attribute,
 ) -> AttributeAt
-    ensures { attributePlaced result ≡ keptNamed reader image.now name.now (attributePlaced so_far) a }
+    ensures { attribute_placed result ≡ kept_named reader image.now name.now (attribute_placed so_far) a }
 {
     match so_far {
         AttributeAt::Nothing => {
@@ -50,7 +50,7 @@ fn kept_with(
 
 // The whole list is read, wherever the name stands in it.
 pub fn attribute_named(image: &[u8], v: Volume, id: u64, name: &[u8], nodes: u64) -> AttributeFound
-    ensures { attributeFound result ≡ attributeNamed image.now v id name.now nodes }
+    ensures { attribute_found result ≡ attribute_named image.now v id name.now nodes }
 {
     let q = search(v, id, 4);
     let keys = q.keys;

@@ -1,11 +1,11 @@
 // The bytes of a stream, fed an extent after the other.
 ghost use Rattle.std.specs.Prelude.{◌≡◌, List, ◌++◌, ℕ};
-ghost use Rattle.extents.specs.Extents.{diskOf};
-ghost use Rattle.streams.specs.Inner.{taken, stepBytes, streamBytes};
-ghost use Rattle.links.specs.Inner.{fedAs};
+ghost use Rattle.extents.specs.Extents.{disk_of};
+ghost use Rattle.streams.specs.Inner.{taken, step_bytes, stream_bytes};
+ghost use Rattle.links.specs.Inner.{fed_as};
 
 use crate::raw::{feed_all, feed_zeros};
-use bytes::{Span, part};
+use byte_fields::{Span, part};
 use cursor::{first, next};
 use extents::smaller;
 use feed::Feed;
@@ -26,7 +26,7 @@ fn push_taken(
     e: Extent,
     n: u64,
 ) -> Feed
-    ensures { (xs : List ℕ) → fedAs raw room result out.new xs ≡ fedAs raw room f out.old (taken (diskOf reader image.now) e n ++ xs) }
+    ensures { (xs : List ℕ) → fed_as raw room result out.new xs ≡ fed_as raw room f out.old (taken (disk_of reader image.now) e n ++ xs) }
 {
     if e.phys_block == 0 {
         return feed_zeros(out, room, raw, f, n);
@@ -50,7 +50,7 @@ fn push_step(
     pos: u64,
     e: Extent,
 ) -> Feed
-    ensures { (xs : List ℕ) → fedAs raw room result out.new xs ≡ fedAs raw room f out.old (stepBytes (diskOf reader image.now) size pos e ++ xs) }
+    ensures { (xs : List ℕ) → fed_as raw room result out.new xs ≡ fed_as raw room f out.old (step_bytes (disk_of reader image.now) size pos e ++ xs) }
 {
     if size <= pos {
         return f;
@@ -73,7 +73,7 @@ pub fn push_stream(
     size: u64,
     nodes: u64,
 ) -> Feed
-    ensures { (xs : List ℕ) → fedAs raw room result out.new xs ≡ fedAs raw room f out.old (streamBytes image.now v object size nodes ++ xs) }
+    ensures { (xs : List ℕ) → fed_as raw room result out.new xs ≡ fed_as raw room f out.old (stream_bytes image.now v object size nodes ++ xs) }
 {
     let q = search(v, object, 8);
     let keys = q.keys;

@@ -1,14 +1,14 @@
 // Bytes that come one after the other, written as they are, or read as a text.
 ghost use Rattle.std.specs.Prelude.{◌≡◌, List, [], ◌++◌, ℕ, replicate};
-ghost use Rattle.text.specs.Output.{at, outputOf, puts};
-ghost use Rattle.links.specs.Inner.{fedAs, begunAs};
+ghost use Rattle.text.specs.Output.{at, output_of, puts};
+ghost use Rattle.links.specs.Inner.{fed_as, begun_as};
 
 use error::Refusal;
 use feed::{Feed, begin, finish, push_all, push_zeros};
 use text::{Position, put_all, put_byte};
 
 fn write_zeros(out: &mut [u8], room: usize, p: Position, n: u64) -> Position
-    ensures { outputOf result out.new ≡ puts room (replicate n 0) (outputOf p out.old) }
+    ensures { output_of result out.new ≡ puts room (replicate n 0) (output_of p out.old) }
 {
     let mut q = p;
     let mut left = n;
@@ -26,7 +26,7 @@ fn write_zeros(out: &mut [u8], room: usize, p: Position, n: u64) -> Position
 
 // Zeros that pass the room are refused before one is written: a size may lie far past any buffer.
 fn put_zeros(out: &mut [u8], room: usize, p: Position, n: u64) -> Position
-    ensures { outputOf result out.new ≡ puts room (replicate n 0) (outputOf p out.old) }
+    ensures { output_of result out.new ≡ puts room (replicate n 0) (output_of p out.old) }
 {
     match p {
         Position::No(e) => Position::No(e),
@@ -52,7 +52,7 @@ fn moved(f: Feed, p: Position) -> Feed
 }
 
 pub fn feed_begin(raw: bool, marks: bool) -> Feed
-    ensures { (room : ℕ) (b xs : List ℕ) → fedAs raw room result b xs ≡ puts room (begunAs raw marks xs) (at b 0) }
+    ensures { (room : ℕ) (b xs : List ℕ) → fed_as raw room result b xs ≡ puts room (begun_as raw marks xs) (at b 0) }
 {
     let f = begin(Position::At(0), marks);
     if raw {
@@ -62,7 +62,7 @@ pub fn feed_begin(raw: bool, marks: bool) -> Feed
 }
 
 pub fn feed_all(out: &mut [u8], room: usize, raw: bool, f: Feed, bytes: &[u8]) -> Feed
-    ensures { (xs : List ℕ) → fedAs raw room result out.new xs ≡ fedAs raw room f out.old (bytes.now ++ xs) }
+    ensures { (xs : List ℕ) → fed_as raw room result out.new xs ≡ fed_as raw room f out.old (bytes.now ++ xs) }
 {
     if raw {
         let p = f.position;
@@ -72,7 +72,7 @@ pub fn feed_all(out: &mut [u8], room: usize, raw: bool, f: Feed, bytes: &[u8]) -
 }
 
 pub fn feed_zeros(out: &mut [u8], room: usize, raw: bool, f: Feed, n: u64) -> Feed
-    ensures { (xs : List ℕ) → fedAs raw room result out.new xs ≡ fedAs raw room f out.old (replicate n 0 ++ xs) }
+    ensures { (xs : List ℕ) → fed_as raw room result out.new xs ≡ fed_as raw room f out.old (replicate n 0 ++ xs) }
 {
     if raw {
         let p = f.position;
@@ -83,7 +83,7 @@ pub fn feed_zeros(out: &mut [u8], room: usize, raw: bool, f: Feed, n: u64) -> Fe
 
 // No more bytes come.
 pub fn feed_end(out: &mut [u8], room: usize, raw: bool, f: Feed) -> Position
-    ensures { outputOf result out.new ≡ fedAs raw room f out.old [] }
+    ensures { output_of result out.new ≡ fed_as raw room f out.old [] }
 {
     if raw {
         return f.position;

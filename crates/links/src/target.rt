@@ -1,14 +1,14 @@
 // The contents of an attribute, as they are or read as a text.
 ghost use Rattle.std.specs.Prelude.{◌≡◌, List, ◌++◌, ℕ};
-ghost use Rattle.bytes.specs.Number.{told};
-ghost use Rattle.text.specs.Output.{at, outputOf, puts};
-ghost use Rattle.streams.specs.Streams.{settledTold};
+ghost use Rattle.byte_fields.specs.Number.{told};
+ghost use Rattle.text.specs.Output.{at, output_of, puts};
+ghost use Rattle.streams.specs.Streams.{settled_told};
 ghost use Rattle.calls.specs.Filled.{filled};
-ghost use Rattle.links.specs.Inner.{fedAs, readAs, settledContents, contentBytes};
+ghost use Rattle.links.specs.Inner.{fed_as, read_as, settled_contents, content_bytes};
 
 use crate::pour::push_stream;
 use crate::raw::{feed_all, feed_begin, feed_end};
-use bytes::Number;
+use byte_fields::Number;
 use calls::number_at;
 use extents::Ruling;
 use feed::Feed;
@@ -19,7 +19,7 @@ use volume::Volume;
 
 // Whether the contents can be read.
 pub fn settle_contents(image: &[u8], v: Volume, a: Attribute, nodes: u64) -> Settled
-    ensures { settledTold result ≡ settledContents image.now v a nodes }
+    ensures { settled_told result ≡ settled_contents image.now v a nodes }
 {
     let contents = a.contents;
     match contents {
@@ -41,7 +41,7 @@ fn push_contents(
     a: Attribute,
     nodes: u64,
 ) -> Feed
-    ensures { (xs : List ℕ) → fedAs raw room result out.new xs ≡ fedAs raw room f out.old (contentBytes image.now v a nodes ++ xs) }
+    ensures { (xs : List ℕ) → fed_as raw room result out.new xs ≡ fed_as raw room f out.old (content_bytes image.now v a nodes ++ xs) }
 {
     let reader = v.reader;
     let place = a.place;
@@ -70,7 +70,7 @@ fn put_contents(
     a: Attribute,
     nodes: u64,
 ) -> Position
-    ensures { outputOf result out.new ≡ puts room (readAs raw (contentBytes image.now v a nodes)) (at out.old 0) }
+    ensures { output_of result out.new ≡ puts room (read_as raw (content_bytes image.now v a nodes)) (at out.old 0) }
 {
     let f = feed_begin(raw, false);
     let g = push_contents(out, room, raw, f, image, v, a, nodes);
@@ -79,7 +79,7 @@ fn put_contents(
 
 // Measured first: a buffer that is too short is left as it was.
 pub fn show(image: &[u8], v: Volume, a: Attribute, raw: bool, out: &mut [u8], nodes: u64) -> Number
-    ensures { record { answer = told result; buffer = out.new } ≡ filled (readAs raw (contentBytes image.now v a nodes)) out.old }
+    ensures { record { answer = told result; buffer = out.new } ≡ filled (read_as raw (content_bytes image.now v a nodes)) out.old }
 {
     let room = out.len();
     match put_contents(&mut out[..0], room, raw, image, v, a, nodes) {

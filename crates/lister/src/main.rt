@@ -1,5 +1,5 @@
 // The lister: an image of at most 65,536 bytes on standard input, the listing of its volume 0 on standard output. Document 01, "The listing (added)".
-use bytes::{Sliced, Span, part};
+use byte_fields::{Sliced, Span, part};
 use checkpoints::Choice;
 use error::{Refusal, number_of};
 use gpt::part_of_image;

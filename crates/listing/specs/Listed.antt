@@ -3,13 +3,13 @@
 use Rattle.std.specs.Prelude.{ℕ, List, ◌++◌, length, drop, replicate}
 use Rattle.error.specs.Answer.{Answer, got, no}
 use Rattle.lookup.specs.Counted.{Counted, after, onto}
-use Rattle.volume.specs.Open.{volumeOfImage}
+use Rattle.volume.specs.Open.{volume_of_image}
 use Rattle.volume.specs.declared.Volume.{Volume}
 use Rattle.volume.specs.declared.Which.{Which}
 use Rattle.calls.specs.Filled.{Filled, Answered}
 use Rattle.demand.specs.Listing.{listing}
-use Rattle.demand.specs.Demand.{view_of, listingOfPart}
-use Rattle.forms.specs.Course.{nodesInto}
+use Rattle.demand.specs.Demand.{view_of, listing_of_part}
+use Rattle.forms.specs.Course.{nodes_into}
 
 abbrev pub listed_of : Answer (List ℕ) → List ℕ → Filled
 listed_of (got t) b = record { answer = got (length t); buffer = t ++ drop (length t) b }
@@ -17,17 +17,17 @@ listed_of (no e) b = record { answer = no e; buffer = replicate (length b) 0 }
 
 -- ---- with the nodes gone through: document 02, request 06
 
-abbrev pub listedBy : Counted (List ℕ) → List ℕ → Answered
-listedBy c b = record { nodes = c.nodes; result = listed_of c.answer b }
+abbrev pub listed_by : Counted (List ℕ) → List ℕ → Answered
+listed_by c b = record { nodes = c.nodes; result = listed_of c.answer b }
 
 -- of a volume, into `room` bytes, s nodes gone through before
-unfoldable pub listedOn : List ℕ → Volume → ℕ → ℕ → Counted (List ℕ)
-listedOn image v room s = after (nodesInto room image v s) (listing (view_of image v) room)
+unfoldable pub listed_on : List ℕ → Volume → ℕ → ℕ → Counted (List ℕ)
+listed_on image v room s = after (nodes_into room image v s) (listing (view_of image v) room)
 
 -- the nodes of opening a volume of a container's bytes, and of its listing
-unfoldable pub listNodes : List ℕ → Which → ℕ → ℕ
-listNodes part w room = (onto (volumeOfImage part w) (λ v s. listedOn part v room s)).nodes
+unfoldable pub list_nodes : List ℕ → Which → ℕ → ℕ
+list_nodes part w room = (onto (volume_of_image part w) (λ v s. listed_on part v room s)).nodes
 
 -- what `apfs_list` answers, of a container's bytes
-unfoldable pub listCounted : List ℕ → Which → ℕ → Counted (List ℕ)
-listCounted part w room = after (listNodes part w room) (listingOfPart part w room)
+unfoldable pub list_counted : List ℕ → Which → ℕ → Counted (List ℕ)
+list_counted part w room = after (list_nodes part w room) (listing_of_part part w room)

@@ -1,14 +1,14 @@
 // The whole listing of a volume, into a buffer that the caller lends.
 ghost use Rattle.std.specs.Prelude.{◌≡◌, length};
 ghost use Rattle.error.specs.Answer.{no};
-ghost use Rattle.text.specs.Output.{outputOf, at, puts};
-ghost use Rattle.calls.specs.Filled.{filledAt, calledBy};
-ghost use Rattle.demand.specs.Listing.{footLines, trace};
+ghost use Rattle.text.specs.Output.{output_of, at, puts};
+ghost use Rattle.calls.specs.Filled.{filled_at, called_by};
+ghost use Rattle.demand.specs.Listing.{foot_lines, trace};
 ghost use Rattle.demand.specs.Demand.{view_of};
-ghost use Rattle.forms.specs.Course.{nodesInto};
+ghost use Rattle.forms.specs.Course.{nodes_into};
 ghost use Rattle.forms.specs.Inner.{run};
-ghost use Rattle.listing.specs.Listed.{listed_of, listedBy, listedOn, listCounted};
-ghost use Rattle.listing.specs.Inner.{body_of, Inside, footAfter};
+ghost use Rattle.listing.specs.Listed.{listed_of, listed_by, listed_on, list_counted};
+ghost use Rattle.listing.specs.Inner.{body_of, Inside, foot_after};
 
 use calls::Progress;
 use demand::levels;
@@ -23,7 +23,7 @@ use volume::{Volume, VolumeOpening, Which, name_rule, open_at};
 
 // The totals, and the last bracket.
 pub fn put_foot(out: &mut [u8], room: usize, p: Position, t: Totals) -> Position
-    ensures { outputOf result out.new ≡ puts room (footLines t) (outputOf p out.old) }
+    ensures { output_of result out.new ≡ puts room (foot_lines t) (output_of p out.old) }
 {
     let q = put_total_line(out, room, p, t.nodes, t.bytes, t.attrs);
     put_all(out, room, q, b")\n")
@@ -32,7 +32,7 @@ pub fn put_foot(out: &mut [u8], room: usize, p: Position, t: Totals) -> Position
 // The foot of the text up to the position.
 fn put_own_foot(out: &mut [u8], room: usize, p: Position) -> Position
     requires { Inside p out.old }
-    ensures { outputOf result out.new ≡ footAfter room (outputOf p out.old) }
+    ensures { output_of result out.new ≡ foot_after room (output_of p out.old) }
 {
     match p {
         Position::No(e) => Position::No(e),
@@ -45,7 +45,7 @@ fn put_own_foot(out: &mut [u8], room: usize, p: Position) -> Position
 
 // All above the foot, with its nodes after those of opening.
 pub fn put_body(out: &mut [u8], room: usize, image: &[u8], v: Volume, nodes: u64) -> Progress
-    ensures { (outputOf result.at out.new ≡ run room (body_of image.now v) (at out.old 0)) × (result.nodes ≡ nodesInto room image.now v nodes) }
+    ensures { (output_of result.at out.new ≡ run room (body_of image.now v) (at out.old 0)) × (result.nodes ≡ nodes_into room image.now v nodes) }
 {
     let rule = name_rule(v);
     let label = label_of(image, v);
@@ -68,7 +68,7 @@ pub fn put_body(out: &mut [u8], room: usize, image: &[u8], v: Volume, nodes: u64
 }
 
 fn put_listing(out: &mut [u8], image: &[u8], v: Volume, nodes: u64) -> Progress
-    ensures { (outputOf result.at out.new ≡ run (length out.old) (trace (view_of image.now v)) (at out.old 0)) × (result.nodes ≡ nodesInto (length out.old) image.now v nodes) }
+    ensures { (output_of result.at out.new ≡ run (length out.old) (trace (view_of image.now v)) (at out.old 0)) × (result.nodes ≡ nodes_into (length out.old) image.now v nodes) }
 {
     let room = out.len();
     let p = put_body(out, room, image, v, nodes);
@@ -81,14 +81,14 @@ fn put_listing(out: &mut [u8], image: &[u8], v: Volume, nodes: u64) -> Progress
 
 // A refused listing leaves its buffer all zeros.
 pub fn refuse_zeroed(out: &mut [u8], w: Refusal) -> Position
-    ensures { filledAt result out.new ≡ listed_of (no w) out.old }
+    ensures { filled_at result out.new ≡ listed_of (no w) out.old }
 {
     clear(out);
     Position::No(w)
 }
 
 fn list_volume(image: &[u8], v: Volume, nodes: u64, out: &mut [u8]) -> Progress
-    ensures { calledBy result out.new ≡ listedBy (listedOn image.now v (length out.old) nodes) out.old }
+    ensures { called_by result out.new ≡ listed_by (listed_on image.now v (length out.old) nodes) out.old }
 {
     let p = put_listing(out, image, v, nodes);
     let at = p.at;
@@ -102,7 +102,7 @@ fn list_volume(image: &[u8], v: Volume, nodes: u64, out: &mut [u8]) -> Progress
 }
 
 pub fn list_text(image: &[u8], which: Which, out: &mut [u8]) -> Progress
-    ensures { calledBy result out.new ≡ listedBy (listCounted image.now which (length out.old)) out.old }
+    ensures { called_by result out.new ≡ listed_by (list_counted image.now which (length out.old)) out.old }
 {
     let opened = open_at(image, which);
     let volume = opened.volume;

@@ -9,26 +9,26 @@ use native.Mathlib.Omega.{arith}
 use Rattle.error.specs.Answer.{got, no}
 use Rattle.error.specs.declared.Refusal.{Refusal}
 use Rattle.lookup.specs.Counted.{Counted, after}
-use Rattle.lists.specs.Lists.{elementAt, placed}
+use Rattle.lists.specs.Lists.{element_at, placed}
 
-element-in : {A : Type 0} (k : ℕ) (xs : List A) (d : A) → k < length xs → elementAt k xs ≡ some (get_or xs k d)
-unfolding elementAt
-element-in k [] d h = absurd (omega arith)
-element-in zero (x ∷ xs) d h = refl
-element-in (suc k) (x ∷ xs) d h = element-in k xs d (omega arith)
+element_in : {A : Type 0} (k : ℕ) (xs : List A) (d : A) → k < length xs → element_at k xs ≡ some (get_or xs k d)
+unfolding element_at
+element_in k [] d h = absurd (omega arith)
+element_in zero (x ∷ xs) d h = refl
+element_in (suc k) (x ∷ xs) d h = element_in k xs d (omega arith)
 
-element-past : {A : Type 0} (k : ℕ) (xs : List A) → length xs ≤ k → elementAt k xs ≡ none
-unfolding elementAt
-element-past k [] h = refl
-element-past zero (x ∷ xs) h = absurd (omega arith)
-element-past (suc k) (x ∷ xs) h = element-past k xs (omega arith)
+element_past : {A : Type 0} (k : ℕ) (xs : List A) → length xs ≤ k → element_at k xs ≡ none
+unfolding element_at
+element_past k [] h = refl
+element_past zero (x ∷ xs) h = absurd (omega arith)
+element_past (suc k) (x ∷ xs) h = element_past k xs (omega arith)
 
 module _ {A : Type 0} (c : Counted (List A)) (k : ℕ) where
-  pub placed-in : (xs : List A) (d : A) → c.answer ≡ got xs → k < length xs → placed k c ≡ after c.nodes (got (some (get_or xs k d)))
-  placed-in xs d e h = rw (e, element-in k xs d h)
+  pub placed_in : (xs : List A) (d : A) → c.answer ≡ got xs → k < length xs → placed k c ≡ after c.nodes (got (some (get_or xs k d)))
+  placed_in xs d e h = rw (e, element_in k xs d h)
 
   pub placed_past : (xs : List A) → c.answer ≡ got xs → length xs ≤ k → placed k c ≡ after c.nodes (got none)
-  placed_past xs e h = rw (e, element-past k xs h)
+  placed_past xs e h = rw (e, element_past k xs h)
 
-  pub placed-refused : (w : Refusal) → c.answer ≡ no w → placed k c ≡ after c.nodes (no w)
-  placed-refused w e = rw e
+  pub placed_refused : (w : Refusal) → c.answer ≡ no w → placed k c ≡ after c.nodes (no w)
+  placed_refused w e = rw e

@@ -1,5 +1,5 @@
--- The shape of the loops that find an element by its place; no promise to a caller rests on these. `keep` over a list is `elementAt`
--- (`place-start`, `place-next` and `place_end`, proofs/Laws.antt).
+-- The shape of the loops that find an element by its place; no promise to a caller rests on these. `keep` over a list is `element_at`
+-- (`place_start`, `place-next` and `place_end`, proofs/Laws.antt).
 use Rattle.std.specs.Prelude.{ℕ, zero, suc, List, [], ◌∷◌}
 use Rattle.std.proofs.Math.Option.{Option, none, some}
 use Rattle.error.specs.Answer.{Answer, got, no, ◌>>=◌}
@@ -16,11 +16,11 @@ abbrev pub kept : {A : Type 0} → Answer (Option A) → ℕ → A → Answer (O
 kept a left x = a >>= λ o. got (keep o left x)
 
 -- the elements of a run that can be read, up to the first that can't; of a list without a fault they are the list (`listed`, proofs/Reading.antt)
-abbrev pub readThen : {A : Type 0} → Answer A → List A → List A
-readThen (got x) xs = x ∷ xs
-readThen (no e) xs = []
+abbrev pub read_then : {A : Type 0} → Answer A → List A → List A
+read_then (got x) xs = x ∷ xs
+read_then (no e) xs = []
 
 unfoldable pub readable : {A : Type 0} → (Place → Answer A) → Run → List A
-readable f (more p s r) = readThen (f p) (readable f r)
+readable f (more p s r) = read_then (f p) (readable f r)
 readable f (end s) = []
 readable f (refused e s) = []

@@ -1,5 +1,5 @@
 -- An element of a list, read by g from the next record of a leaf; the shape of the loops over a list, on which no promise to a caller rests.
--- A list gone through so is `list_of` (`List-over`, `list_at`, `list-passed` and `list-no`, proofs/Reading.antt).
+-- A list gone through so is `list_of` (`List-over`, `list_at`, `list_passed` and `list_no`, proofs/Reading.antt).
 use Rattle.std.specs.Prelude.{ℕ}
 use Rattle.error.specs.Answer.{Answer, got, no}
 use Rattle.error.specs.declared.Refusal.{Refusal}
@@ -23,30 +23,30 @@ pub data Seen (A : Type 0) : Type 0 where
   element : A → ℕ → Seen A
   refusal : Refusal → Seen A
 
-abbrev pub seenThen : {A : Type 0} → Answer A → ℕ → Seen A
-seenThen (got x) a = element x a
-seenThen (no w) a = refusal w
+abbrev pub seen_then : {A : Type 0} → Answer A → ℕ → Seen A
+seen_then (got x) a = element x a
+seen_then (no w) a = refusal w
 
-abbrev pub seenIn : {A : Type 0} → (Place → Answer A) → InLeaf → Seen A
-seenIn g (leaf.At p a) = seenThen (g p) a
-seenIn g leaf.Passed = passed
-seenIn g leaf.End = over
-seenIn g (leaf.No w) = refusal w
+abbrev pub seen_in : {A : Type 0} → (Place → Answer A) → InLeaf → Seen A
+seen_in g (leaf.At p a) = seen_then (g p) a
+seen_in g leaf.Passed = passed
+seen_in g leaf.End = over
+seen_in g (leaf.No w) = refusal w
 
-abbrev pub entrySeen : EntryIn → Seen Entry
-entrySeen entry.Over = over
-entrySeen entry.Passed = passed
-entrySeen (entry.At x a) = element x a
-entrySeen (entry.No w) = refusal w
+abbrev pub entry_seen : EntryIn → Seen Entry
+entry_seen entry.Over = over
+entry_seen entry.Passed = passed
+entry_seen (entry.At x a) = element x a
+entry_seen (entry.No w) = refusal w
 
-abbrev pub attributeSeen : AttributeIn → Seen Attribute
-attributeSeen attribute.Over = over
-attributeSeen attribute.Passed = passed
-attributeSeen (attribute.At x a) = element x a
-attributeSeen (attribute.No w) = refusal w
+abbrev pub attribute_seen : AttributeIn → Seen Attribute
+attribute_seen attribute.Over = over
+attribute_seen attribute.Passed = passed
+attribute_seen (attribute.At x a) = element x a
+attribute_seen (attribute.No w) = refusal w
 
-abbrev pub extentSeen : ExtentIn → Seen Extent
-extentSeen extent.Over = over
-extentSeen extent.Passed = passed
-extentSeen (extent.At x a) = element x a
-extentSeen (extent.No w) = refusal w
+abbrev pub extent_seen : ExtentIn → Seen Extent
+extent_seen extent.Over = over
+extent_seen extent.Passed = passed
+extent_seen (extent.At x a) = element x a
+extent_seen (extent.No w) = refusal w

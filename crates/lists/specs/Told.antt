@@ -2,7 +2,7 @@
 use Rattle.std.proofs.Math.Option.{Option, none, some}
 use Rattle.error.specs.Answer.{Answer, got, no}
 use Rattle.lookup.specs.Counted.{Counted, after}
-use Rattle.inode_record.specs.Inode.{inodeTold}
+use Rattle.inode_record.specs.Inode.{inode_told}
 use Rattle.records.specs.declared.directory.Entry.{Entry}
 use Rattle.records.specs.declared.attribute.Attribute.{Attribute}
 use Rattle.records.specs.declared.extent.Extent.{Extent}
@@ -18,29 +18,29 @@ use Rattle.lists.specs.declared.extents.ExtentAt.TheVariants as extent
 use Rattle.lists.specs.declared.extents.ExtentFound.{ExtentFound}
 use Rattle.lists.specs.declared.inodes.InodeFound.{InodeFound}
 
-abbrev pub inodeFound : InodeFound → Counted Inode
-inodeFound r = after r.nodes (inodeTold r.inode)
+abbrev pub inode_found : InodeFound → Counted Inode
+inode_found r = after r.nodes (inode_told r.inode)
 
-abbrev pub entryPlaced : EntryAt → Answer (Option Entry)
-entryPlaced entry.Nothing = got none
-entryPlaced (entry.At x) = got (some x)
-entryPlaced (entry.No e) = no e
+abbrev pub entry_placed : EntryAt → Answer (Option Entry)
+entry_placed entry.Nothing = got none
+entry_placed (entry.At x) = got (some x)
+entry_placed (entry.No e) = no e
 
-abbrev pub entryFound : EntryFound → Counted (Option Entry)
-entryFound r = after r.nodes (entryPlaced r.entry)
+abbrev pub entry_found : EntryFound → Counted (Option Entry)
+entry_found r = after r.nodes (entry_placed r.entry)
 
-abbrev pub attributePlaced : AttributeAt → Answer (Option Attribute)
-attributePlaced attribute.Nothing = got none
-attributePlaced (attribute.At x) = got (some x)
-attributePlaced (attribute.No e) = no e
+abbrev pub attribute_placed : AttributeAt → Answer (Option Attribute)
+attribute_placed attribute.Nothing = got none
+attribute_placed (attribute.At x) = got (some x)
+attribute_placed (attribute.No e) = no e
 
-abbrev pub attributeFound : AttributeFound → Counted (Option Attribute)
-attributeFound r = after r.nodes (attributePlaced r.attribute)
+abbrev pub attribute_found : AttributeFound → Counted (Option Attribute)
+attribute_found r = after r.nodes (attribute_placed r.attribute)
 
-abbrev pub extentPlaced : ExtentAt → Answer (Option Extent)
-extentPlaced extent.Nothing = got none
-extentPlaced (extent.At x) = got (some x)
-extentPlaced (extent.No e) = no e
+abbrev pub extent_placed : ExtentAt → Answer (Option Extent)
+extent_placed extent.Nothing = got none
+extent_placed (extent.At x) = got (some x)
+extent_placed (extent.No e) = no e
 
-abbrev pub extentFound : ExtentFound → Counted (Option Extent)
-extentFound r = after r.nodes (extentPlaced r.extent)
+abbrev pub extent_found : ExtentFound → Counted (Option Extent)
+extent_found r = after r.nodes (extent_placed r.extent)

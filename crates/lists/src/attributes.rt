@@ -1,9 +1,9 @@
 // The attributes of an id, by place (fs.rs, `xattrs`).
 ghost use Rattle.std.specs.Prelude.{◌≡◌};
 ghost use Rattle.cursor.specs.Left.{run_at};
-ghost use Rattle.records.specs.Attribute.{attributeAt};
-ghost use Rattle.lists.specs.Told.{attributePlaced, attributeFound};
-ghost use Rattle.lists.specs.Lists.{searchOf, list_of, placed, attributesOf};
+ghost use Rattle.records.specs.Attribute.{attribute_at};
+ghost use Rattle.lists.specs.Told.{attribute_placed, attribute_found};
+ghost use Rattle.lists.specs.Lists.{search_of, list_of, placed, attributes_of};
 ghost use Rattle.lists.specs.Inner.{kept};
 
 use crate::seen::{AttributeIn, attribute_in};
@@ -39,7 +39,7 @@ fn found(x: AttributeAt, nodes: u64) -> AttributeFound
 
 // What is kept once x is at the place, or behind it.
 fn kept_with(so_far: AttributeAt, x: Attribute) -> AttributeAt
-    ensures { attributePlaced result ≡ kept (attributePlaced so_far) 0 x }
+    ensures { attribute_placed result ≡ kept (attribute_placed so_far) 0 x }
 {
     match so_far {
         AttributeAt::Nothing => AttributeAt::At(x),
@@ -50,7 +50,7 @@ fn kept_with(so_far: AttributeAt, x: Attribute) -> AttributeAt
 
 // The whole list from a step on is read, whichever place is asked.
 pub fn attribute_from(image: &[u8], v: Volume, id: u64, place: u64, start: Step) -> AttributeFound
-    ensures { attributeFound result ≡ placed place (list_of (attributeAt v.reader image.now) (run_at image.now (searchOf v id 4) start start.from)) }
+    ensures { attribute_found result ≡ placed place (list_of (attribute_at v.reader image.now) (run_at image.now (search_of v id 4) start start.from)) }
 {
     let q = search(v, id, 4);
     let keys = q.keys;
@@ -81,7 +81,7 @@ pub fn attribute_from(image: &[u8], v: Volume, id: u64, place: u64, start: Step)
 }
 
 pub fn attribute_at(image: &[u8], v: Volume, id: u64, place: u64, nodes: u64) -> AttributeFound
-    ensures { attributeFound result ≡ placed place (attributesOf image.now v id nodes) }
+    ensures { attribute_found result ≡ placed place (attributes_of image.now v id nodes) }
 {
     let start = first(image, search(v, id, 4), nodes);
     attribute_from(image, v, id, place, start)

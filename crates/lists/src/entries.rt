@@ -1,10 +1,10 @@
 // The directory entries of an id, by place (fs.rs, `read_dir`).
 ghost use Rattle.std.specs.Prelude.{◌≡◌};
 ghost use Rattle.cursor.specs.Left.{run_at};
-ghost use Rattle.volume.specs.Rule.{hashedKeys};
+ghost use Rattle.volume.specs.Rule.{hashed_keys};
 ghost use Rattle.records.specs.Directory.{entry_at};
-ghost use Rattle.lists.specs.Told.{entryPlaced, entryFound};
-ghost use Rattle.lists.specs.Lists.{searchOf, list_of, placed, entriesOf};
+ghost use Rattle.lists.specs.Told.{entry_placed, entry_found};
+ghost use Rattle.lists.specs.Lists.{search_of, list_of, placed, entries_of};
 ghost use Rattle.lists.specs.Inner.{kept};
 
 use crate::seen::{EntryIn, entry_in};
@@ -40,7 +40,7 @@ fn found(x: EntryAt, nodes: u64) -> EntryFound
 
 // What is kept once x is at the place, or behind it.
 fn kept_with(so_far: EntryAt, x: Entry) -> EntryAt
-    ensures { entryPlaced result ≡ kept (entryPlaced so_far) 0 x }
+    ensures { entry_placed result ≡ kept (entry_placed so_far) 0 x }
 {
     match so_far {
         EntryAt::Nothing => EntryAt::At(x),
@@ -51,7 +51,7 @@ fn kept_with(so_far: EntryAt, x: Entry) -> EntryAt
 
 // The whole list from a step on is read, whichever place is asked.
 pub fn entry_from(image: &[u8], v: Volume, id: u64, place: u64, start: Step) -> EntryFound
-    ensures { entryFound result ≡ placed place (list_of (entry_at (hashedKeys v) v.reader image.now) (run_at image.now (searchOf v id 9) start start.from)) }
+    ensures { entry_found result ≡ placed place (list_of (entry_at (hashed_keys v) v.reader image.now) (run_at image.now (search_of v id 9) start start.from)) }
 {
     let q = search(v, id, 9);
     let keys = q.keys;
@@ -82,7 +82,7 @@ pub fn entry_from(image: &[u8], v: Volume, id: u64, place: u64, start: Step) -> 
 }
 
 pub fn entry_at(image: &[u8], v: Volume, id: u64, place: u64, nodes: u64) -> EntryFound
-    ensures { entryFound result ≡ placed place (entriesOf image.now v id nodes) }
+    ensures { entry_found result ≡ placed place (entries_of image.now v id nodes) }
 {
     let start = first(image, search(v, id, 9), nodes);
     entry_from(image, v, id, place, start)

@@ -1,9 +1,9 @@
 // The extents of an id, and of a file, by place (fs.rs, `extents`, `file_extents`).
 ghost use Rattle.std.specs.Prelude.{◌≡◌};
 ghost use Rattle.cursor.specs.Left.{run_at};
-ghost use Rattle.records.specs.Extent.{extentAt};
-ghost use Rattle.lists.specs.Told.{extentPlaced, extentFound};
-ghost use Rattle.lists.specs.Lists.{searchOf, list_of, placed, extentsOf, fileExtents};
+ghost use Rattle.records.specs.Extent.{extent_at};
+ghost use Rattle.lists.specs.Told.{extent_placed, extent_found};
+ghost use Rattle.lists.specs.Lists.{search_of, list_of, placed, extents_of, file_extents};
 ghost use Rattle.lists.specs.Inner.{kept};
 
 use crate::seen::{ExtentIn, extent_in};
@@ -40,7 +40,7 @@ fn found(x: ExtentAt, nodes: u64) -> ExtentFound
 
 // What is kept once x is at the place, or behind it.
 fn kept_with(so_far: ExtentAt, x: Extent) -> ExtentAt
-    ensures { extentPlaced result ≡ kept (extentPlaced so_far) 0 x }
+    ensures { extent_placed result ≡ kept (extent_placed so_far) 0 x }
 {
     match so_far {
         ExtentAt::Nothing => ExtentAt::At(x),
@@ -51,7 +51,7 @@ fn kept_with(so_far: ExtentAt, x: Extent) -> ExtentAt
 
 // The whole list from a step on is read, whichever place is asked.
 pub fn extent_from(image: &[u8], v: Volume, id: u64, place: u64, start: Step) -> ExtentFound
-    ensures { extentFound result ≡ placed place (list_of (extentAt v.reader image.now) (run_at image.now (searchOf v id 8) start start.from)) }
+    ensures { extent_found result ≡ placed place (list_of (extent_at v.reader image.now) (run_at image.now (search_of v id 8) start start.from)) }
 {
     let q = search(v, id, 8);
     let keys = q.keys;
@@ -82,7 +82,7 @@ pub fn extent_from(image: &[u8], v: Volume, id: u64, place: u64, start: Step) ->
 }
 
 pub fn extent_at(image: &[u8], v: Volume, id: u64, place: u64, nodes: u64) -> ExtentFound
-    ensures { extentFound result ≡ placed place (extentsOf image.now v id nodes) }
+    ensures { extent_found result ≡ placed place (extents_of image.now v id nodes) }
 {
     let start = first(image, search(v, id, 8), nodes);
     extent_from(image, v, id, place, start)
@@ -90,7 +90,7 @@ pub fn extent_at(image: &[u8], v: Volume, id: u64, place: u64, nodes: u64) -> Ex
 
 // As they are stored.
 pub fn file_extents(image: &[u8], v: Volume, i: Inode, place: u64, nodes: u64) -> ExtentFound
-    ensures { extentFound result ≡ fileExtents image.now v i place nodes }
+    ensures { extent_found result ≡ file_extents image.now v i place nodes }
 {
     let owner = i.owner;
     let ids = i.ids;

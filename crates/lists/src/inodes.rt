@@ -1,7 +1,7 @@
 // An inode by its id (fs.rs, `inode`).
 ghost use Rattle.std.specs.Prelude.{◌≡◌};
-ghost use Rattle.lists.specs.Told.{inodeFound};
-ghost use Rattle.lists.specs.Lists.{inodeOf, rootOf};
+ghost use Rattle.lists.specs.Told.{inode_found};
+ghost use Rattle.lists.specs.Lists.{inode_of, root_of};
 
 use crate::tree::search;
 use btree::{Found, scan};
@@ -21,7 +21,7 @@ pub struct InodeFound {
 
 // The first inode record of an id.
 pub fn inode(image: &[u8], v: Volume, id: u64, nodes: u64) -> InodeFound
-    ensures { inodeFound result ≡ inodeOf image.now v id nodes }
+    ensures { inode_found result ≡ inode_of image.now v id nodes }
 {
     let reader = v.reader;
     let s = scan(image, search(v, id, 3), 0, nodes);
@@ -44,7 +44,7 @@ pub fn inode(image: &[u8], v: Volume, id: u64, nodes: u64) -> InodeFound
 
 // The root directory (fs.rs, `root`).
 pub fn root(image: &[u8], v: Volume, nodes: u64) -> InodeFound
-    ensures { inodeFound result ≡ rootOf image.now v nodes }
+    ensures { inode_found result ≡ root_of image.now v nodes }
 {
     inode(image, v, ROOT, nodes)
 }

@@ -1,11 +1,11 @@
 // An element of a list, read from the next record of a leaf.
 ghost use Rattle.std.specs.Prelude.{◌≡◌, ◌-◌, ◌<◌, ◌^◌, length};
-ghost use Rattle.btree.specs.Inner.{inLeaf};
-ghost use Rattle.cursor.specs.Left.{inReached};
+ghost use Rattle.btree.specs.Inner.{in_leaf};
+ghost use Rattle.cursor.specs.Left.{in_reached};
 ghost use Rattle.records.specs.Directory.{entry_of, entry_at};
-ghost use Rattle.records.specs.Attribute.{attributeOf, attributeAt};
-ghost use Rattle.records.specs.Extent.{extentOf, extentAt};
-ghost use Rattle.lists.specs.Seen.{seenIn, entrySeen, attributeSeen, extentSeen};
+ghost use Rattle.records.specs.Attribute.{attribute_of, attribute_at};
+ghost use Rattle.records.specs.Extent.{extent_of, extent_at};
+ghost use Rattle.lists.specs.Seen.{seen_in, entry_seen, attribute_seen, extent_seen};
 
 use btree::{InLeaf, Keys, in_leaf};
 use cursor::Reached;
@@ -41,7 +41,7 @@ pub enum ExtentIn {
 // The next entry of a leaf m whose block is b.
 fn entry_of(b: &[u8], k: Keys, m: Node, from: u32) -> EntryIn
     requires { length b.now < 2 ^ 32 }
-    ensures { entrySeen result ≡ seenIn (entry_of k.hashed b.now) (inLeaf b.now m k.info k.id k.kind (m.nkeys - from) from) }
+    ensures { entry_seen result ≡ seen_in (entry_of k.hashed b.now) (in_leaf b.now m k.info k.id k.kind (m.nkeys - from) from) }
 {
     match in_leaf(b, m, k.info, k.id, k.kind, from) {
         InLeaf::At(p, after) => match records::entry_of(b, p, k.hashed) {
@@ -55,7 +55,7 @@ fn entry_of(b: &[u8], k: Keys, m: Node, from: u32) -> EntryIn
 }
 
 pub fn entry_in(image: &[u8], k: Keys, reached: Reached, from: u32) -> EntryIn
-    ensures { entrySeen result ≡ seenIn (entry_at k.hashed k.reader image.now) (inReached image.now k reached from) }
+    ensures { entry_seen result ≡ seen_in (entry_at k.hashed k.reader image.now) (in_reached image.now k reached from) }
 {
     match reached {
         Reached::Leaf(m) => entry_of(k.reader.block(image, m.block), k, m, from),
@@ -67,7 +67,7 @@ pub fn entry_in(image: &[u8], k: Keys, reached: Reached, from: u32) -> EntryIn
 // The next attribute of a leaf m whose block is b.
 fn attribute_of(b: &[u8], k: Keys, m: Node, from: u32) -> AttributeIn
     requires { length b.now < 2 ^ 32 }
-    ensures { attributeSeen result ≡ seenIn (attributeOf b.now) (inLeaf b.now m k.info k.id k.kind (m.nkeys - from) from) }
+    ensures { attribute_seen result ≡ seen_in (attribute_of b.now) (in_leaf b.now m k.info k.id k.kind (m.nkeys - from) from) }
 {
     match in_leaf(b, m, k.info, k.id, k.kind, from) {
         InLeaf::At(p, after) => match records::attribute_of(b, p) {
@@ -81,7 +81,7 @@ fn attribute_of(b: &[u8], k: Keys, m: Node, from: u32) -> AttributeIn
 }
 
 pub fn attribute_in(image: &[u8], k: Keys, reached: Reached, from: u32) -> AttributeIn
-    ensures { attributeSeen result ≡ seenIn (attributeAt k.reader image.now) (inReached image.now k reached from) }
+    ensures { attribute_seen result ≡ seen_in (attribute_at k.reader image.now) (in_reached image.now k reached from) }
 {
     match reached {
         Reached::Leaf(m) => attribute_of(k.reader.block(image, m.block), k, m, from),
@@ -93,7 +93,7 @@ pub fn attribute_in(image: &[u8], k: Keys, reached: Reached, from: u32) -> Attri
 // The next extent of a leaf m whose block is b.
 fn extent_of(b: &[u8], k: Keys, m: Node, from: u32) -> ExtentIn
     requires { length b.now < 2 ^ 32 }
-    ensures { extentSeen result ≡ seenIn (extentOf b.now) (inLeaf b.now m k.info k.id k.kind (m.nkeys - from) from) }
+    ensures { extent_seen result ≡ seen_in (extent_of b.now) (in_leaf b.now m k.info k.id k.kind (m.nkeys - from) from) }
 {
     match in_leaf(b, m, k.info, k.id, k.kind, from) {
         InLeaf::At(p, after) => match records::extent_of(b, p) {
@@ -107,7 +107,7 @@ fn extent_of(b: &[u8], k: Keys, m: Node, from: u32) -> ExtentIn
 }
 
 pub fn extent_in(image: &[u8], k: Keys, reached: Reached, from: u32) -> ExtentIn
-    ensures { extentSeen result ≡ seenIn (extentAt k.reader image.now) (inReached image.now k reached from) }
+    ensures { extent_seen result ≡ seen_in (extent_at k.reader image.now) (in_reached image.now k reached from) }
 {
     match reached {
         Reached::Leaf(m) => extent_of(k.reader.block(image, m.block), k, m, from),

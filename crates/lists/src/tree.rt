@@ -1,13 +1,13 @@
 // The records of an id and a kind in a volume's tree (fs.rs, `records`).
 ghost use Rattle.std.specs.Prelude.{◌≡◌, ◌-◌};
-ghost use Rattle.lists.specs.Lists.{searchOf};
+ghost use Rattle.lists.specs.Lists.{search_of};
 
 use btree::{Keys, Search};
 use lookup::Resolve;
 use volume::{Volume, hashed_keys};
 
 pub fn search(v: Volume, id: u64, kind: u8) -> Search
-    ensures { result ≡ searchOf v id kind }
+    ensures { result ≡ search_of v id kind }
 {
     let reader = v.reader;
     let root = v.root;

@@ -1,10 +1,10 @@
 // The lists of an id on the way down to its inode: its records stand one after the other in the tree.
 ghost use Rattle.std.specs.Prelude.{◌≡◌};
-ghost use Rattle.btree.specs.Scan.{scanOf};
+ghost use Rattle.btree.specs.Scan.{scan_of};
 ghost use Rattle.cursor.specs.Left.{Begins};
 ghost use Rattle.cursor.specs.Way.{Leads};
-ghost use Rattle.lists.specs.Told.{inodeFound};
-ghost use Rattle.lists.specs.Lists.{searchOf, inodeOf};
+ghost use Rattle.lists.specs.Told.{inode_found};
+ghost use Rattle.lists.specs.Lists.{search_of, inode_of};
 
 use crate::inodes::InodeFound;
 use crate::tree::search;
@@ -15,15 +15,15 @@ use inode_record::{InodeRead, inode_at};
 use volume::Volume;
 
 pub fn inode_way(image: &[u8], v: Volume, id: u64, nodes: u64) -> Way
-    ensures { Leads image.now (searchOf v id 3) nodes result }
+    ensures { Leads image.now (search_of v id 3) nodes result }
 {
     way_down(image, search(v, id, 3), nodes)
 }
 
 // The first inode record of an id, where its search begins.
 fn inode_begun(image: &[u8], v: Volume, id: u64, w: Way, nodes: u64) -> InodeFound
-    requires { Leads image.now (searchOf v id 3) nodes w }
-    ensures { inodeFound result ≡ inodeOf image.now v id nodes }
+    requires { Leads image.now (search_of v id 3) nodes w }
+    ensures { inode_found result ≡ inode_of image.now v id nodes }
 {
     let reader = v.reader;
     let q = search(v, id, 3);
@@ -51,8 +51,8 @@ fn inode_begun(image: &[u8], v: Volume, id: u64, w: Way, nodes: u64) -> InodeFou
 
 // The first inode record of an id: mostly it stands where the way leads to.
 pub fn inode_on(image: &[u8], v: Volume, id: u64, w: Way, nodes: u64) -> InodeFound
-    requires { Leads image.now (searchOf v id 3) nodes w }
-    ensures { inodeFound result ≡ inodeOf image.now v id nodes }
+    requires { Leads image.now (search_of v id 3) nodes w }
+    ensures { inode_found result ≡ inode_of image.now v id nodes }
 {
     let reader = v.reader;
     let q = search(v, id, 3);
@@ -73,8 +73,8 @@ pub fn inode_on(image: &[u8], v: Volume, id: u64, w: Way, nodes: u64) -> InodeFo
 
 // Where an id's records of a kind begin.
 pub fn list_on(image: &[u8], v: Volume, id: u64, kind: u8, w: Way, nodes: u64) -> Step
-    requires { Leads image.now (searchOf v id 3) nodes w }
-    ensures { Begins image.now (searchOf v id kind) result (scanOf image.now (searchOf v id kind) nodes) }
+    requires { Leads image.now (search_of v id 3) nodes w }
+    ensures { Begins image.now (search_of v id kind) result (scan_of image.now (search_of v id kind) nodes) }
 {
     resume(image, search(v, id, 3), kind, w, nodes)
 }

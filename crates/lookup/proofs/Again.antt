@@ -4,21 +4,21 @@ use mathlib.Core.Path.{◌≡◌, refl}
 use mathlib.Core.List.{List}
 use native.Mathlib.Omega.{arith}
 use Rattle.error.specs.Answer.{Answer, got, no, ◌>>=◌}
-use Rattle.error.proofs.Laws.{eq-cases}
-use Rattle.bytes.specs.Part.{part_of}
-use Rattle.bytes.specs.declared.Span.{Span}
-use Rattle.obj.specs.Block.{block_of, objectAt}
+use Rattle.error.proofs.Laws.{eq_cases}
+use Rattle.byte_fields.specs.Part.{part_of}
+use Rattle.byte_fields.specs.declared.Span.{Span}
+use Rattle.obj.specs.Block.{block_of, object_at}
 use Rattle.obj.specs.Header.{header_at}
 use Rattle.obj.specs.declared.reader.Reader.{Reader}
-use Rattle.obj.proofs.Places.{Lies, object-lies}
+use Rattle.obj.proofs.Places.{Lies, object_lies}
 use Rattle.node.specs.Node.{node_of}
 use Rattle.node.specs.declared.layout.Node.{Node}
-use Rattle.lookup.specs.Read.{nodeAt}
-use Rattle.lookup.proofs.Depth.{At, no-at, then_at, body_at}
+use Rattle.lookup.specs.Read.{node_at}
+use Rattle.lookup.proofs.Depth.{At, no_at, then_at, body_at}
 
-pub read_again : (r : Reader) (b : List ℕ) (p : ℕ) (m : Node) → nodeAt r b p ≡ got m → node_of p (block_of r b p) ≡ got m
-unfolding nodeAt block_of
-read_again r b p m h = of (objectAt r b p) (object-lies r b p) h
+pub read_again : (r : Reader) (b : List ℕ) (p : ℕ) (m : Node) → node_at r b p ≡ got m → node_of p (block_of r b p) ≡ got m
+unfolding node_at block_of
+read_again r b p m h = of (object_at r b p) (object_lies r b p) h
   where
     of : (a : Answer Span) → Lies r p a → (a >>= λ s. node_of p (part_of b s)) ≡ got m →
         node_of p (part_of b (record { start = p * r.block_size; len = r.block_size })) ≡ got m
@@ -26,9 +26,9 @@ read_again r b p m h = of (objectAt r b p) (object-lies r b p) h
     of (no e) k g = absurd (let z : ◌≡◌ {A = ℕ} 0 1 = cc in omega arith)
 
 -- and a node's block is the one whose bytes they were
-pub again-block : (p : ℕ) (b : List ℕ) (m : Node) → node_of p b ≡ got m → m.block ≡ p
+pub again_block : (p : ℕ) (b : List ℕ) (m : Node) → node_of p b ≡ got m → m.block ≡ p
 unfolding node_of
-again-block p b =
+again_block p b =
     then_at p (header_at b) _ λ h.
-    eq-cases (At p) (λ e. body_at p b) λ e.
-    eq-cases (At p) (λ q. body_at p b) (λ q. no-at p _)
+    eq_cases (At p) (λ e. body_at p b) λ e.
+    eq_cases (At p) (λ q. body_at p b) (λ q. no_at p _)

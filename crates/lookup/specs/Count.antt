@@ -8,12 +8,12 @@ use Rattle.node.specs.declared.layout.Info.{Info}
 use Rattle.lookup.specs.declared.descent.Target.{Target}
 use Rattle.lookup.specs.declared.map.Resolve.{Resolve}
 use Rattle.lookup.specs.declared.map.Resolve.TheVariants.{Identity, Mapped}
-use Rattle.lookup.specs.Lookup.{into, stepAt, pathOf, lookupLe}
-use Rattle.lookup.specs.Map.{targetFor, resolve}
+use Rattle.lookup.specs.Lookup.{into, step_at, path_of, lookup_le}
+use Rattle.lookup.specs.Map.{target_for, resolve}
 
 -- an index node leads to the child of the last entry that is not above the target, its block having passed as a node
 abbrev pub LeadsTo : Reader → List ℕ → Info → Target → Node → Node → Type 0
-LeadsTo r b info t m c = stepAt r b info t m ≡ got (into c)
+LeadsTo r b info t m c = step_at r b info t m ≡ got (into c)
 
 -- the blocks that a lookup goes through from a node on
 pub data Goes (r : Reader) (b : List ℕ) (info : Info) (t : Target) : Node → List ℕ → Type 0 where
@@ -26,14 +26,14 @@ pub data Goes (r : Reader) (b : List ℕ) (info : Info) (t : Target) : Node → 
 
 -- there is such a path, and no other: the count goes up by its length, the root counted, and stays at 2^64 − 1
 pub record CountsPath (r : Reader) (b : List ℕ) (info : Info) (t : Target) (root : Node) : Type 0 where
-  pub there : Goes r b info t root (pathOf r b info t root)
-  pub only : (ps : List ℕ) → Goes r b info t root ps → ps ≡ pathOf r b info t root
-  pub count : (s : ℕ) → (lookupLe r b info t root s).nodes ≡ min (s + length (pathOf r b info t root)) (2 ^ 64 - 1)
+  pub there : Goes r b info t root (path_of r b info t root)
+  pub only : (ps : List ℕ) → Goes r b info t root ps → ps ≡ path_of r b info t root
+  pub count : (s : ℕ) → (lookup_le r b info t root s).nodes ≡ min (s + length (path_of r b info t root)) (2 ^ 64 - 1)
 
 -- the blocks gone through for the block of a child that a tree names: none where it is named by its address, else those of a lookup in the map
-abbrev pub namePath : Reader → List ℕ → Resolve → ℕ → List ℕ
-namePath r b Identity child = []
-namePath r b (Mapped m) child = pathOf r b m.info (targetFor m child) m.root
+abbrev pub name_path : Reader → List ℕ → Resolve → ℕ → List ℕ
+name_path r b Identity child = []
+name_path r b (Mapped m) child = path_of r b m.info (target_for m child) m.root
 
 abbrev pub ResolvesBy : Reader → List ℕ → Resolve → ℕ → Type 0
-ResolvesBy r b x child = (resolve r b x child).path ≡ namePath r b x child
+ResolvesBy r b x child = (resolve r b x child).path ≡ name_path r b x child

@@ -3,23 +3,23 @@ use Rattle.std.specs.Prelude.{ℕ, ◌<◌, ◌≡◌, Bool, true, false, List, 
 use Rattle.std.proofs.Common.{inl, inr, ⊎_elim}
 use Rattle.std.proofs.Math.Decide.{dec_lt, ℕ_discrete}
 use Rattle.error.specs.Answer.{Answer, got, ◌>>=◌}
-use Rattle.bytes.specs.Number.{number_at}
-use Rattle.bytes.specs.Part.{part_of}
-use Rattle.node.specs.Entry.{keyValueAt}
+use Rattle.byte_fields.specs.Number.{number_at}
+use Rattle.byte_fields.specs.Part.{part_of}
+use Rattle.node.specs.Entry.{key_value_at}
 use Rattle.node.specs.declared.layout.Node.{Node}
 use Rattle.node.specs.declared.layout.Info.{Info}
 use Rattle.lookup.specs.declared.descent.Target.{Target}
 
 -- the two numbers that a key begins with
-unfoldable pub keyIn : List ℕ → Answer (ℕ × ℕ)
-keyIn key = number_at 8 key 0 >>= λ oid. number_at 8 key 8 >>= λ xid. got (oid, xid)
+unfoldable pub key_in : List ℕ → Answer (ℕ × ℕ)
+key_in key = number_at 8 key 0 >>= λ oid. number_at 8 key 8 >>= λ xid. got (oid, xid)
 
 -- those of the i-th entry's key
 unfoldable pub key_at : List ℕ → Node → Info → ℕ → Answer (ℕ × ℕ)
-key_at b m info i = keyValueAt b m info i >>= λ e. keyIn (part_of b e.key)
+key_at b m info i = key_value_at b m info i >>= λ e. key_in (part_of b e.key)
 
-abbrev pub targetKey : Target → ℕ × ℕ
-targetKey t = (t.oid, t.xid)
+abbrev pub target_key : Target → ℕ × ℕ
+target_key t = (t.oid, t.xid)
 
 -- keys are ordered by their first number, then by their second
 abbrev pub IsAbove : ℕ × ℕ → ℕ × ℕ → Type 0

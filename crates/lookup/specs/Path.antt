@@ -28,10 +28,10 @@ unfoldable pub and_then : {A B : Type 0} → Through A → (A → Through B) →
 and_then t f = record { path = t.path ++ (on t.answer f).path; answer = (on t.answer f).answer }
 
 -- the count after a path, s nodes having been gone through before it: each of its nodes counts one, up to 2^64 − 1
-unfoldable pub countAlong : ℕ → List ℕ → ℕ
-countAlong s [] = s
-countAlong s (p ∷ ps) = countAlong (ticked s) ps
+unfoldable pub count_along : ℕ → List ℕ → ℕ
+count_along s [] = s
+count_along s (p ∷ ps) = count_along (ticked s) ps
 
 -- an answer, counted
 unfoldable pub counted : {A : Type 0} → ℕ → Through A → Counted A
-counted s t = after (countAlong s t.path) t.answer
+counted s t = after (count_along s t.path) t.answer

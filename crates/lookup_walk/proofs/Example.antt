@@ -7,24 +7,24 @@ use mathlib.Core.Logic.{inl, inr, ⊎_elim}
 use native.Mathlib.Omega.{arith}
 use lib.Dec.{lit<}
 use lib.ListN.{replicate}
-use Rattle.error.specs.Answer.{got, ifLe, ifEq}
-use Rattle.bytes.specs.Number.{little, number_at}
-use Rattle.bytes.specs.Part.{part_of, spanAt}
-use Rattle.arith.specs.Checked.{productOf}
-use Rattle.checksum.specs.Fletcher.{wordsAt, words_of, sum, running, s1, s2, checksum, valid}
-use Rattle.obj.specs.Block.{block_at, block_of, objectAt}
+use Rattle.error.specs.Answer.{got, if_le, if_eq}
+use Rattle.byte_fields.specs.Number.{little, number_at}
+use Rattle.byte_fields.specs.Part.{part_of, span_at}
+use Rattle.arith.specs.Checked.{product_of}
+use Rattle.checksum.specs.Fletcher.{words_at, words_of, sum, running, s1, s2, checksum, valid}
+use Rattle.obj.specs.Block.{block_at, block_of, object_at}
 use Rattle.obj.specs.Header.{header_at}
 use Rattle.obj.specs.declared.reader.Reader.{Reader}
-use Rattle.node.specs.Node.{fields_at, laidOut, body_of, node_of}
-use Rattle.node.specs.Entry.{fixed_at, variableAt, row_at, withValue, keyValueAt, childAt}
+use Rattle.node.specs.Node.{fields_at, laid_out, body_of, node_of}
+use Rattle.node.specs.Entry.{fixed_at, variable_at, row_at, with_value, key_value_at, child_at}
 use Rattle.node.specs.Place.{no_part, place_of}
 use Rattle.node.specs.declared.layout.Node.{Node}
 use Rattle.node.specs.declared.layout.Info.{Info}
-use Rattle.lookup.specs.Read.{nodeAt}
-use Rattle.lookup.specs.Key.{keyIn, key_at, targetKey, NotAbove}
+use Rattle.lookup.specs.Read.{node_at}
+use Rattle.lookup.specs.Key.{key_in, key_at, target_key, NotAbove}
 use Rattle.lookup.specs.declared.descent.Target.{Target}
 use Rattle.lookup_walk.proofs.Climbs.{last_taken}
-use Rattle.lookup_walk.specs.Walk.{Item, Tree, leaf, index, bare, branch, item_at, itemsFrom, childNode, branchesFrom, nodeTree, childTree, treeAt, WellFormed, lastIn, walkLe}
+use Rattle.lookup_walk.specs.Walk.{Item, Tree, leaf, index, bare, branch, item_at, items_from, child_node, branches_from, node_tree, child_tree, tree_at, WellFormed, last_in, walk_le}
 
 -- the root, the leaf of (5, 1) and (5, 7), and that of (9, 2) and (11, 1)
 abbrev block1 : List ℕ
@@ -91,18 +91,18 @@ tree =
     (branch (9, 2) (leaf (item 9 2 3 64 144 ∷ ghost 11 1 3 80 ∷ [])) bare))
 
 -- the root is what its block holds
-pub root-read : nodeAt reader image 1 ≡ got root
-unfolding image ifLe ifEq little number_at part_of spanAt productOf wordsAt words_of sum running s1 s2 checksum valid block_at block_of objectAt header_at fields_at laidOut body_of node_of nodeAt
-root-read = refl
+pub root_read : node_at reader image 1 ≡ got root
+unfolding image if_le if_eq little number_at part_of span_at product_of words_at words_of sum running s1 s2 checksum valid block_at block_of object_at header_at fields_at laid_out body_of node_of node_at
+root_read = refl
 
-tree-read : treeAt reader image info root ≡ got tree
-unfolding image ifLe ifEq little number_at part_of spanAt productOf wordsAt words_of sum running s1 s2 checksum valid block_at block_of objectAt header_at fields_at laidOut body_of node_of nodeAt fixed_at variableAt row_at withValue keyValueAt place_of childAt keyIn key_at item_at itemsFrom childNode branchesFrom nodeTree childTree treeAt
-tree-read = refl
+tree_read : tree_at reader image info root ≡ got tree
+unfolding image if_le if_eq little number_at part_of span_at product_of words_at words_of sum running s1 s2 checksum valid block_at block_of object_at header_at fields_at laid_out body_of node_of node_at fixed_at variable_at row_at with_value key_value_at place_of child_at key_in key_at item_at items_from child_node branches_from node_tree child_tree tree_at
+tree_read = refl
 
-pub well-formed : WellFormed reader image info root
-well-formed = record {
+pub well_formed : WellFormed reader image info root
+well_formed = record {
   tree = tree;
-  reads = tree-read;
+  reads = tree_read;
   rising = (inr (refl, omega arith), (inl (omega arith), (inl (omega arith), tt)));
   firsts = (refl, tt, (refl, tt, tt));
 }
@@ -111,16 +111,16 @@ well-formed = record {
 abbrev target : Target
 target = record { oid = 11; xid = 4 }
 
-below : (oid xid : ℕ) → oid < 11 → NotAbove (oid, xid) (targetKey target)
+below : (oid xid : ℕ) → oid < 11 → NotAbove (oid, xid) (target_key target)
 below oid xid h = ⊎_elim (λ k. omega arith) (λ k. omega (arith, k.0))
 
-pub ghost-found : walkLe reader image info target root ≡ got (some (ghost 11 1 3 80).hit)
-unfolding walkLe lastIn
-ghost-found =
+pub ghost_found : walk_le reader image info target root ≡ got (some (ghost 11 1 3 80).hit)
+unfolding walk_le last_in
+ghost_found =
     let a = item 5 1 2 64 144 in
     let b = item 5 7 2 80 128 in
     let c = item 9 2 3 64 144 in
     let d = ghost 11 1 3 80 in
-    rw tree-read
+    rw tree_read
     (ap got (last_taken target none a (b ∷ c ∷ d ∷ []) (below 5 1 (lit< tt)) ∙ (last_taken target (some a.hit) b (c ∷ d ∷ []) (below 5 7 (lit< tt))
     ∙ (last_taken target (some b.hit) c (d ∷ []) (below 9 2 (lit< tt)) ∙ last_taken target (some c.hit) d [] (⊎_elim (λ k. omega arith) (λ k. omega (arith, k.1)))))))

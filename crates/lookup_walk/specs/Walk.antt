@@ -1,13 +1,13 @@
--- The walk over all entries of a tree, leaf after leaf, and well-formed trees. Document 02, request 14.
+-- The walk over all entries of a tree, leaf after leaf, and well_formed trees. Document 02, request 14.
 use Rattle.std.specs.Prelude.{ℕ, zero, suc, ◌+◌, ◌≡◌, List, [], ◌∷◌, ◌++◌}
 use Rattle.std.proofs.Math.Option.{Option, none, some}
-use Rattle.error.specs.Answer.{Answer, got, no, ◌>>=◌, pick, ifEq}
+use Rattle.error.specs.Answer.{Answer, got, no, ◌>>=◌, pick, if_eq}
 use Rattle.error.specs.declared.Refusal.TheVariants.{Corrupt}
-use Rattle.bytes.specs.Part.{part_of}
+use Rattle.byte_fields.specs.Part.{part_of}
 use Rattle.obj.specs.Block.{block_of}
 use Rattle.obj.specs.declared.reader.Reader.{Reader}
-use Rattle.node.specs.Node.{leafBit}
-use Rattle.node.specs.Entry.{keyValueAt, childAt}
+use Rattle.node.specs.Node.{leaf_bit}
+use Rattle.node.specs.Entry.{key_value_at, child_at}
 use Rattle.node.specs.Place.{place_of}
 use Rattle.node.specs.declared.layout.Node.{Node}
 use Rattle.node.specs.declared.layout.Info.{Info}
@@ -15,9 +15,9 @@ use Rattle.lookup.specs.declared.descent.Target.{Target}
 use Rattle.node.specs.declared.place.Place.{Place}
 use Rattle.lookup.specs.declared.map.Map.{Map}
 use Rattle.lookup.specs.declared.map.MapValue.{MapValue}
-use Rattle.lookup.specs.Read.{nodeAt}
-use Rattle.lookup.specs.Map.{targetFor, mappingOf}
-use Rattle.lookup.specs.Key.{keyIn, key_at, targetKey, IsAbove, above?, is_yes}
+use Rattle.lookup.specs.Read.{node_at}
+use Rattle.lookup.specs.Map.{target_for, mapping_of}
+use Rattle.lookup.specs.Key.{key_in, key_at, target_key, IsAbove, above?, is_yes}
 
 -- an entry of a leaf: the two numbers that its key begins with, and where it lies
 pub record Item : Type 0 where
@@ -38,44 +38,44 @@ module _ (r : Reader) (b : List ℕ) (info : Info) where
   -- the i-th entry of a leaf, "those without a value too"
   unfoldable pub item_at : Node → ℕ → Answer Item
   item_at m i =
-      keyValueAt (block_of r b m.block) m info i >>= λ e.
-      keyIn (part_of (block_of r b m.block) e.key) >>= λ k.
+      key_value_at (block_of r b m.block) m info i >>= λ e.
+      key_in (part_of (block_of r b m.block) e.key) >>= λ k.
       got (record { key = k; hit = place_of m.block e })
 
   -- n entries of a leaf from the i-th on
-  unfoldable pub itemsFrom : Node → ℕ → ℕ → Answer (List Item)
-  itemsFrom m zero i = got []
-  itemsFrom m (suc n) i = item_at m i >>= λ x. itemsFrom m n (i + 1) >>= λ xs. got (x ∷ xs)
+  unfoldable pub items_from : Node → ℕ → ℕ → Answer (List Item)
+  items_from m zero i = got []
+  items_from m (suc n) i = item_at m i >>= λ x. items_from m n (i + 1) >>= λ xs. got (x ∷ xs)
 
   -- the child of an index node's i-th entry
-  unfoldable pub childNode : Node → ℕ → Answer Node
-  childNode m i = childAt (block_of r b m.block) m info i >>= λ p. nodeAt r b p
+  unfoldable pub child_node : Node → ℕ → Answer Node
+  child_node m i = child_at (block_of r b m.block) m info i >>= λ p. node_at r b p
 
   -- n entries of an index node from the i-th on, with f at each child
-  unfoldable pub branchesFrom : (Node → Answer Tree) → Node → ℕ → ℕ → Answer Branches
-  branchesFrom f m zero i = got bare
-  branchesFrom f m (suc n) i =
+  unfoldable pub branches_from : (Node → Answer Tree) → Node → ℕ → ℕ → Answer Branches
+  branches_from f m zero i = got bare
+  branches_from f m (suc n) i =
       key_at (block_of r b m.block) m info i >>= λ k.
-      childNode m i >>= λ c.
+      child_node m i >>= λ c.
       f c >>= λ t.
-      branchesFrom f m n (i + 1) >>= λ bs.
+      branches_from f m n (i + 1) >>= λ bs.
       got (branch k t bs)
 
   -- a leaf is told by its flag, at any level
-  unfoldable pub nodeTree : (Node → Answer Tree) → Node → Answer Tree
-  nodeTree f m =
-      ifEq (leafBit m.flags) 1
-      (itemsFrom m m.nkeys 0 >>= λ xs. got (leaf xs))
-      (branchesFrom f m m.nkeys 0 >>= λ bs. got (index bs))
+  unfoldable pub node_tree : (Node → Answer Tree) → Node → Answer Tree
+  node_tree f m =
+      if_eq (leaf_bit m.flags) 1
+      (items_from m m.nkeys 0 >>= λ xs. got (leaf xs))
+      (branches_from f m m.nkeys 0 >>= λ bs. got (index bs))
 
   -- a child of a node of a level: "A child whose level + 1 differs from its parent's is 2"
-  unfoldable pub childTree : ℕ → Node → Answer Tree
-  childTree zero c = no Corrupt
-  childTree (suc n) c = ifEq c.level n (nodeTree (childTree n) c) (no Corrupt)
+  unfoldable pub child_tree : ℕ → Node → Answer Tree
+  child_tree zero c = no Corrupt
+  child_tree (suc n) c = if_eq c.level n (node_tree (child_tree n) c) (no Corrupt)
 
   -- "every node and entry of the tree reads without refusal": this is got
-  unfoldable pub treeAt : Node → Answer Tree
-  treeAt root = nodeTree (childTree root.level) root
+  unfoldable pub tree_at : Node → Answer Tree
+  tree_at root = node_tree (child_tree root.level) root
 
 -- "all entries of a map, read leaf after leaf"
 abbrev mutual
@@ -121,19 +121,19 @@ abbrev mutual
 
 pub record WellFormed (r : Reader) (b : List ℕ) (info : Info) (root : Node) : Type 0 where
   pub tree : Tree
-  pub reads : treeAt r b info root ≡ got tree
+  pub reads : tree_at r b info root ≡ got tree
   pub rising : Ascends (items tree)
   pub firsts : Firsts tree
 
 -- a walk over entries "that keeps the last one not above the target"
-unfoldable pub lastIn : Target → Option Place → List Item → Option Place
-lastIn t kept [] = kept
-lastIn t kept (x ∷ xs) = lastIn t (pick (is_yes (above? x.key (targetKey t))) kept (some x.hit)) xs
+unfoldable pub last_in : Target → Option Place → List Item → Option Place
+last_in t kept [] = kept
+last_in t kept (x ∷ xs) = last_in t (pick (is_yes (above? x.key (target_key t))) kept (some x.hit)) xs
 
 -- the slow lookup: over all entries of the tree
-unfoldable pub walkLe : Reader → List ℕ → Info → Target → Node → Answer (Option Place)
-walkLe r b info t root = treeAt r b info root >>= λ tree. got (lastIn t none (items tree))
+unfoldable pub walk_le : Reader → List ℕ → Info → Target → Node → Answer (Option Place)
+walk_le r b info t root = tree_at r b info root >>= λ tree. got (last_in t none (items tree))
 
 -- what an object map says of an object by that walk
-abbrev pub mapSlow : Reader → List ℕ → Map → ℕ → Answer (Option MapValue)
-mapSlow r b m oid = walkLe r b m.info (targetFor m oid) m.root >>= mappingOf r b oid
+abbrev pub map_slow : Reader → List ℕ → Map → ℕ → Answer (Option MapValue)
+map_slow r b m oid = walk_le r b m.info (target_for m oid) m.root >>= mapping_of r b oid

@@ -2,9 +2,9 @@
 -- alone is empty; `-` is absent".
 use Rattle.std.specs.Prelude.{ℕ, List, [], ◌∷◌}
 use Rattle.std.proofs.Math.Option.{Option, none, some}
-use Rattle.bytes.specs.Part.{part_of}
+use Rattle.byte_fields.specs.Part.{part_of}
 use Rattle.text.specs.Words.{ascii, bytes, bytes?, words}
-use Rattle.node.specs.Place.{keySpan, valueIn}
+use Rattle.node.specs.Place.{key_span, placed_value}
 use Rattle.node.specs.declared.place.Place.{Place}
 use Rattle.node.specs.declared.table.Value.{Value}
 use Rattle.node.specs.declared.table.Value.TheVariants.{At, Missing}
@@ -14,5 +14,5 @@ shown b (At v) = some (part_of b v)
 shown b Missing = none
 
 -- of the record at a place in the block b
-unfoldable pub recordLine : List ℕ → Place → List ℕ → List ℕ
-recordLine b p x = ascii "(record" (words (bytes (part_of b (keySpan p)) ∷ bytes? (shown b (valueIn p)) ∷ []) (ascii ")\n" x))
+unfoldable pub record_line : List ℕ → Place → List ℕ → List ℕ
+record_line b p x = ascii "(record" (words (bytes (part_of b (key_span p)) ∷ bytes? (shown b (placed_value p)) ∷ []) (ascii ")\n" x))

@@ -1,7 +1,7 @@
 // A bookmark that is handed in: its parts lie in its block and its block in the image, and nothing else is tested.
 ghost use Rattle.std.specs.Prelude.{◌≡◌, ◌+◌, ◌*◌, leb, length};
-ghost use Rattle.node.specs.Place.{placedTold};
-ghost use Rattle.marks.specs.Mark.{valueFits, inside, handedIn};
+ghost use Rattle.node.specs.Place.{placed_told};
+ghost use Rattle.marks.specs.Mark.{value_fits, inside, handed_in};
 
 use crate::mark::place_in;
 use error::Refusal;
@@ -19,7 +19,7 @@ fn block_fits(size: u64, block: u64, len: u64) -> bool
 }
 
 fn value_fits(size: u64, p: Place) -> Placed
-    ensures { placedTold result ≡ valueFits size p }
+    ensures { placed_told result ≡ value_fits size p }
 {
     match held_value(p) {
         Value::At(_) => {
@@ -33,7 +33,7 @@ fn value_fits(size: u64, p: Place) -> Placed
 }
 
 fn parts_fit(size: u64, p: Place) -> Placed
-    ensures { placedTold result ≡ inside size p }
+    ensures { placed_told result ≡ inside size p }
 {
     if size < p.key_off as u64 + p.key_len as u64 {
         return Placed::No(Refusal::Io);
@@ -42,7 +42,7 @@ fn parts_fit(size: u64, p: Place) -> Placed
 }
 
 pub fn handed_in(reader: Reader, image: &[u8], mark: &[u8]) -> Placed
-    ensures { placedTold result ≡ handedIn reader image.now mark.now }
+    ensures { placed_told result ≡ handed_in reader image.now mark.now }
 {
     if mark.len() != 24 {
         return Placed::No(Refusal::Io);

@@ -1,16 +1,16 @@
 // The 24 bytes of a place.
 ghost use Rattle.std.specs.Prelude.{◌≡◌, ◌++◌, ◌≤◌, length, drop};
-ghost use Rattle.calls.specs.Filled.{filledAt, filled};
-ghost use Rattle.marks.specs.Mark.{markBytes, place_in};
+ghost use Rattle.calls.specs.Filled.{filled_at, filled};
+ghost use Rattle.marks.specs.Mark.{mark_bytes, place_in};
 
-use bytes::{eight, four, put_little};
+use byte_fields::{eight, four, put_little};
 use error::Refusal;
 use node::Place;
 use text::Position;
 
 fn put_mark(p: Place, out: &mut [u8])
     requires { 24 ≤ length out.old }
-    ensures { out.new ≡ markBytes p ++ drop 24 out.old }
+    ensures { out.new ≡ mark_bytes p ++ drop 24 out.old }
 {
     put_little(out, 0, 8, p.block);
     put_little(out, 8, 4, p.key_off as u64);
@@ -20,7 +20,7 @@ fn put_mark(p: Place, out: &mut [u8])
 }
 
 pub fn show_mark(p: Place, out: &mut [u8]) -> Position
-    ensures { filledAt result out.new ≡ filled (markBytes p) out.old }
+    ensures { filled_at result out.new ≡ filled (mark_bytes p) out.old }
 {
     if out.len() < 24 {
         return Position::No(Refusal::BufferTooShort);

@@ -1,7 +1,7 @@
 // The bookmark of a volume's record, and the record that a bookmark leads to.
 ghost use Rattle.std.specs.Prelude.{◌≡◌};
-ghost use Rattle.calls.specs.Filled.{filledAt, filledBy, calledBy, answered};
-ghost use Rattle.marks.specs.Texts.{markOn, markCounted, recordText, markedCounted};
+ghost use Rattle.calls.specs.Filled.{filled_at, filled_by, called_by, answered};
+ghost use Rattle.marks.specs.Texts.{mark_on, mark_counted, record_text, marked_counted};
 
 use crate::handed::handed_in;
 use crate::mark::show_mark;
@@ -25,7 +25,7 @@ fn mark_on(
     nodes: u64,
     out: &mut [u8],
 ) -> Progress
-    ensures { calledBy result out.new ≡ answered (markOn image.now v id kind place nodes) out.old }
+    ensures { called_by result out.new ≡ answered (mark_on image.now v id kind place nodes) out.old }
 {
     let s = scan(image, search(v, id, kind), place, nodes);
     let found = s.found;
@@ -53,7 +53,7 @@ pub fn mark_text(
     place: u64,
     out: &mut [u8],
 ) -> Progress
-    ensures { calledBy result out.new ≡ answered (markCounted image.now which id kind place) out.old }
+    ensures { called_by result out.new ≡ answered (mark_counted image.now which id kind place) out.old }
 {
     let opened = open_at(image, which);
     let volume = opened.volume;
@@ -67,7 +67,7 @@ pub fn mark_text(
 }
 
 fn record_of(reader: Reader, image: &[u8], mark: &[u8], out: &mut [u8]) -> Position
-    ensures { filledAt result out.new ≡ filledBy (recordText reader image.now mark.now) out.old }
+    ensures { filled_at result out.new ≡ filled_by (record_text reader image.now mark.now) out.old }
 {
     match handed_in(reader, image, mark) {
         Placed::Got(p) => show_record(reader, image, p, out),
@@ -76,7 +76,7 @@ fn record_of(reader: Reader, image: &[u8], mark: &[u8], out: &mut [u8]) -> Posit
 }
 
 pub fn marked_text(image: &[u8], choice: Choice, mark: &[u8], out: &mut [u8]) -> Progress
-    ensures { calledBy result out.new ≡ answered (markedCounted choice image.now mark.now) out.old }
+    ensures { called_by result out.new ≡ answered (marked_counted choice image.now mark.now) out.old }
 {
     let opened = nx::open(image, choice);
     let container = opened.container;

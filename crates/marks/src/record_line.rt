@@ -1,26 +1,26 @@
 // `(record KEY VALUE)` and LF.
 ghost use Rattle.std.specs.Prelude.{◌≡◌, [], ◌∷◌};
-ghost use Rattle.text.specs.Output.{outputOf, puts};
+ghost use Rattle.text.specs.Output.{output_of, puts};
 ghost use Rattle.text.specs.Words.{bytes, bytes?, words};
-ghost use Rattle.node.specs.Place.{valueIn};
+ghost use Rattle.node.specs.Place.{placed_value};
 ghost use Rattle.obj.specs.Block.{block_of};
-ghost use Rattle.calls.specs.Filled.{filledAt, filled};
-ghost use Rattle.marks.specs.Record.{shown, recordLine};
+ghost use Rattle.calls.specs.Filled.{filled_at, filled};
+ghost use Rattle.marks.specs.Record.{shown, record_line};
 
-use bytes::part;
+use byte_fields::part;
 use node::{Place, Value, held_value, key_in};
 use obj::Reader;
 use text::{Position, put_all, put_hex};
 
 fn put_bytes(out: &mut [u8], room: usize, p: Position, b: &[u8]) -> Position
-    ensures { outputOf result out.new ≡ puts room (words (bytes b.now ∷ []) []) (outputOf p out.old) }
+    ensures { output_of result out.new ≡ puts room (words (bytes b.now ∷ []) []) (output_of p out.old) }
 {
     let a = put_all(out, room, p, b" x");
     put_hex(out, room, a, b)
 }
 
 fn put_value(out: &mut [u8], room: usize, p: Position, b: &[u8], place: Place) -> Position
-    ensures { outputOf result out.new ≡ puts room (words (bytes? (shown b.now (valueIn place)) ∷ []) []) (outputOf p out.old) }
+    ensures { output_of result out.new ≡ puts room (words (bytes? (shown b.now (placed_value place)) ∷ []) []) (output_of p out.old) }
 {
     match held_value(place) {
         Value::At(v) => put_bytes(out, room, p, part(b, v)),
@@ -30,7 +30,7 @@ fn put_value(out: &mut [u8], room: usize, p: Position, b: &[u8], place: Place) -
 
 // The line of the record at a place in the block b.
 fn put_record(out: &mut [u8], room: usize, p: Position, b: &[u8], place: Place) -> Position
-    ensures { outputOf result out.new ≡ puts room (recordLine b.now place []) (outputOf p out.old) }
+    ensures { output_of result out.new ≡ puts room (record_line b.now place []) (output_of p out.old) }
 {
     let a = put_all(out, room, p, b"(record");
     let c = put_bytes(out, room, a, key_in(b, place));
@@ -40,7 +40,7 @@ fn put_record(out: &mut [u8], room: usize, p: Position, b: &[u8], place: Place) 
 
 // Measured first: a buffer that is too short is left as it was.
 fn show_in(b: &[u8], place: Place, out: &mut [u8]) -> Position
-    ensures { filledAt result out.new ≡ filled (recordLine b.now place []) out.old }
+    ensures { filled_at result out.new ≡ filled (record_line b.now place []) out.old }
 {
     let room = out.len();
     match put_record(&mut out[..0], room, Position::At(0), b, place) {
@@ -50,7 +50,7 @@ fn show_in(b: &[u8], place: Place, out: &mut [u8]) -> Position
 }
 
 pub fn show_record(reader: Reader, image: &[u8], place: Place, out: &mut [u8]) -> Position
-    ensures { filledAt result out.new ≡ filled (recordLine (block_of reader image.now place.block) place []) out.old }
+    ensures { filled_at result out.new ≡ filled (record_line (block_of reader image.now place.block) place []) out.old }
 {
     show_in(reader.block(image, place.block), place, out)
 }

@@ -5,37 +5,37 @@ use Rattle.text.specs.Words.{ascii, digits, words}
 use Rattle.volume.specs.declared.Which.{Which}
 use Rattle.demand.specs.View.{View}
 use Rattle.lookup.specs.Counted.{Counted, after, onto}
-use Rattle.volume.specs.Open.{volumeOfImage}
+use Rattle.volume.specs.Open.{volume_of_image}
 use Rattle.volume.specs.declared.Volume.{Volume}
-use Rattle.demand.specs.Demand.{view_of, viewOfPart}
+use Rattle.demand.specs.Demand.{view_of, view_of_part}
 use Rattle.demand.specs.Measure.{Measure, most, measured}
-use Rattle.forms.specs.Course.{nodesInto}
+use Rattle.forms.specs.Course.{nodes_into}
 use Rattle.measure.specs.declared.gauge.Measured.{Measured}
 use Rattle.measure.specs.declared.gauge.Measured.TheVariants.{Got, No}
 
 -- what the code says
-abbrev pub measuredTold : Measured → Answer Measure
-measuredTold (Got n d) = got (record { length = n; depth = d })
-measuredTold (No e) = no e
+abbrev pub measured_told : Measured → Answer Measure
+measured_told (Got n d) = got (record { length = n; depth = d })
+measured_told (No e) = no e
 
-unfoldable pub numbersLine : ℕ → ℕ → List ℕ → List ℕ
-numbersLine n d x = ascii "(measure" (words (digits n ∷ digits d ∷ []) (ascii ")\n" x))
+unfoldable pub numbers_line : ℕ → ℕ → List ℕ → List ℕ
+numbers_line n d x = ascii "(measure" (words (digits n ∷ digits d ∷ []) (ascii ")\n" x))
 
-abbrev pub measureLine : Measure → List ℕ → List ℕ
-measureLine m x = numbersLine m.length m.depth x
+abbrev pub measure_line : Measure → List ℕ → List ℕ
+measure_line m x = numbers_line m.length m.depth x
 
-unfoldable pub volumeText : View → Answer (List ℕ)
-volumeText v = measured v >>= λ m. got (measureLine m [])
+unfoldable pub volume_text : View → Answer (List ℕ)
+volume_text v = measured v >>= λ m. got (measure_line m [])
 
 -- ---- with the nodes gone through: document 02, request 06. They are those of a listing into 4,294,967,295 bytes.
 
-unfoldable pub measuredOn : List ℕ → Volume → ℕ → Counted (List ℕ)
-measuredOn image v s = after (nodesInto most image v s) (volumeText (view_of image v))
+unfoldable pub measured_on : List ℕ → Volume → ℕ → Counted (List ℕ)
+measured_on image v s = after (nodes_into most image v s) (volume_text (view_of image v))
 
 -- of the bytes of a container
-unfoldable pub measureCounted : List ℕ → Which → Counted (List ℕ)
-measureCounted part w = after (onto (volumeOfImage part w) (λ v s. measuredOn part v s)).nodes (viewOfPart part w >>= volumeText)
+unfoldable pub measure_counted : List ℕ → Which → Counted (List ℕ)
+measure_counted part w = after (onto (volume_of_image part w) (λ v s. measured_on part v s)).nodes (view_of_part part w >>= volume_text)
 
 -- what `apfs_measure` answers
-abbrev pub measureText : List ℕ → Which → Answer (List ℕ)
-measureText part w = (measureCounted part w).answer
+abbrev pub measure_text : List ℕ → Which → Answer (List ℕ)
+measure_text part w = (measure_counted part w).answer

@@ -2,9 +2,9 @@
 ghost use Rattle.std.specs.Prelude.{◌≡◌, length};
 ghost use Rattle.error.specs.Answer.{no};
 ghost use Rattle.demand.specs.Demand.{view_of};
-ghost use Rattle.demand.specs.Measure.{most, ofListing, measured};
-ghost use Rattle.forms.specs.Course.{nodesInto};
-ghost use Rattle.measure.specs.Line.{measuredTold};
+ghost use Rattle.demand.specs.Measure.{most, of_listing, measured};
+ghost use Rattle.forms.specs.Course.{nodes_into};
+ghost use Rattle.measure.specs.Line.{measured_told};
 
 use demand::levels;
 use error::{Refusal, number_of};
@@ -33,7 +33,7 @@ pub struct Gauged {
 
 // A text that does not fit is too long.
 fn refused(e: Refusal) -> Measured
-    ensures { measuredTold result ≡ ofListing 0 (no e) }
+    ensures { measured_told result ≡ of_listing 0 (no e) }
 {
     if number_of(e) == 6 {
         return Measured::No(Refusal::TooLong);
@@ -44,7 +44,7 @@ fn refused(e: Refusal) -> Measured
 // The walk that counts for the foot goes over what the writers have read: it adds no nodes.
 pub fn measure_volume(image: &[u8], v: Volume, none: &mut [u8], nodes: u64) -> Gauged
     requires { length none.old ≡ 0 }
-    ensures { (measuredTold result.measured ≡ measured (view_of image.now v)) × (result.nodes ≡ nodesInto most image.now v nodes) }
+    ensures { (measured_told result.measured ≡ measured (view_of image.now v)) × (result.nodes ≡ nodes_into most image.now v nodes) }
 {
     let p = put_body(none, MOST, image, v, nodes);
     let at = p.at;

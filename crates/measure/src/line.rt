@@ -1,8 +1,8 @@
 // The line of a measurement.
 ghost use Rattle.std.specs.Prelude.{◌≡◌, []};
-ghost use Rattle.text.specs.Output.{outputOf, puts};
-ghost use Rattle.calls.specs.Filled.{filledAt, filled, answered, calledBy};
-ghost use Rattle.measure.specs.Line.{numbersLine, measuredOn, measureCounted};
+ghost use Rattle.text.specs.Output.{output_of, puts};
+ghost use Rattle.calls.specs.Filled.{filled_at, filled, answered, called_by};
+ghost use Rattle.measure.specs.Line.{numbers_line, measured_on, measure_counted};
 
 use crate::gauge::{Measured, measure_volume};
 use calls::Progress;
@@ -10,7 +10,7 @@ use text::{Position, put_all, put_decimal};
 use volume::{Volume, VolumeOpening, Which, open_at};
 
 fn put_measure(out: &mut [u8], room: usize, p: Position, length: u64, depth: u64) -> Position
-    ensures { outputOf result out.new ≡ puts room (numbersLine length depth []) (outputOf p out.old) }
+    ensures { output_of result out.new ≡ puts room (numbers_line length depth []) (output_of p out.old) }
 {
     let a = put_all(out, room, p, b"(measure ");
     let b = put_decimal(out, room, a, length);
@@ -21,7 +21,7 @@ fn put_measure(out: &mut [u8], room: usize, p: Position, length: u64, depth: u64
 
 // Measured first: a buffer that is too short is left as it was.
 fn show(length: u64, depth: u64, out: &mut [u8]) -> Position
-    ensures { filledAt result out.new ≡ filled (numbersLine length depth []) out.old }
+    ensures { filled_at result out.new ≡ filled (numbers_line length depth []) out.old }
 {
     let room = out.len();
     match put_measure(&mut out[..0], room, Position::At(0), length, depth) {
@@ -31,7 +31,7 @@ fn show(length: u64, depth: u64, out: &mut [u8]) -> Position
 }
 
 fn volume_line(image: &[u8], v: Volume, nodes: u64, out: &mut [u8]) -> Progress
-    ensures { calledBy result out.new ≡ answered (measuredOn image.now v nodes) out.old }
+    ensures { called_by result out.new ≡ answered (measured_on image.now v nodes) out.old }
 {
     let mut none = [0u8; 1];
     let g = measure_volume(image, v, &mut none[..0], nodes);
@@ -49,7 +49,7 @@ fn volume_line(image: &[u8], v: Volume, nodes: u64, out: &mut [u8]) -> Progress
 }
 
 pub fn measure_text(image: &[u8], which: Which, out: &mut [u8]) -> Progress
-    ensures { calledBy result out.new ≡ answered (measureCounted image.now which) out.old }
+    ensures { called_by result out.new ≡ answered (measure_counted image.now which) out.old }
 {
     let opened = open_at(image, which);
     let volume = opened.volume;

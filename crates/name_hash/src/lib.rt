@@ -1,19 +1,19 @@
 // The hash stored with a directory entry's name (name_hash.rs).
 ghost use Rattle.std.specs.Prelude.{◌≡◌, ◌-◌, ◌^◌};
-ghost use Rattle.bytes.specs.Number.{told};
+ghost use Rattle.byte_fields.specs.Number.{told};
 ghost use Rattle.crc.specs.Crc.{crc};
 ghost use Rattle.crc.specs.Tabled.{TableRule};
-ghost use Rattle.unicode.specs.Keys.{canonical};
-ghost use Rattle.unicode.specs.Stream.{letters};
+ghost use Rattle.unicode_forms.specs.Keys.{canonical};
+ghost use Rattle.unicode_forms.specs.Stream.{letters};
 ghost use Rattle.keys.specs.Told.{left_of};
-ghost use Rattle.name_hash.specs.Hash.{castagnoli, fourBytes, utf32, nameHash, nameLenAndHash};
+ghost use Rattle.name_hash.specs.Hash.{castagnoli, four_bytes, utf32, name_hash, name_len_and_hash};
 ghost use Rattle.name_hash.specs.Fed.{FedFrom};
 
-use bytes::Number;
+use byte_fields::Number;
 use crc::{byte_step, crc_of};
 use error::Refusal;
 use keys::{Cursor, Pending, Step, covers, next_letter};
-use unicode::class_of;
+use unicode_forms::class_of;
 
 // A byte's word is the byte after eight shifts.
 const TABLE: [u32; 256] = [
@@ -61,7 +61,7 @@ fn table() -> [u32; 256]
 // A character as 4 bytes.
 fn character_step(words: &[u32], register: u32, c: u32) -> u32
     requires { TableRule castagnoli words.now }
-    ensures { result ≡ crc castagnoli register (fourBytes c) }
+    ensures { result ≡ crc castagnoli register (four_bytes c) }
 {
     let w = byte_step(words, register, (c % 256) as u8);
     let x = byte_step(words, w, (c / 256 % 256) as u8);
@@ -152,7 +152,7 @@ fn feed_all(words: &[u32], b: &[u8], caseless: bool) -> u32
 }
 
 pub fn name_hash(name: &[u8], insensitive: bool) -> Number
-    ensures { told result ≡ nameHash insensitive name.now }
+    ensures { told result ≡ name_hash insensitive name.now }
 {
     if !covers(name) {
         return Number::No(Refusal::CharacterNotCovered);
@@ -163,7 +163,7 @@ pub fn name_hash(name: &[u8], insensitive: bool) -> Number
 
 // The length, with the closing zero byte, below the hash.
 pub fn name_len_and_hash(name: &[u8], insensitive: bool) -> Number
-    ensures { told result ≡ nameLenAndHash insensitive name.now }
+    ensures { told result ≡ name_len_and_hash insensitive name.now }
 {
     match name_hash(name, insensitive) {
         Number::Got(hash) => Number::Got(((name.len() + 1) % 1024) as u64 + 1024 * hash),

@@ -1,9 +1,9 @@
 // Names as the parts of a record that hold them, and how many parts of each its reading replaces: document 02, request 02.
 ghost use Rattle.std.specs.Prelude.{◌≡◌};
-ghost use Rattle.names.specs.Name.{nameFrom, name_of, nameBytes};
+ghost use Rattle.names.specs.Name.{name_from, name_of, name_bytes};
 ghost use Rattle.names.specs.Inner.{Passed};
 
-use bytes::{Span, cstr, part};
+use byte_fields::{Span, cstr, part};
 use utf8::replaced_parts;
 
 #[derive(Drop)]
@@ -42,7 +42,7 @@ fn plain(b: &[u8]) -> usize
 }
 
 fn read_whole(b: &[u8], start: usize) -> Name
-    ensures { result ≡ nameFrom start b.now }
+    ensures { result ≡ name_from start b.now }
 {
     let c = cstr(b);
     named(start, c.len(), replaced_parts(c))
@@ -50,7 +50,7 @@ fn read_whole(b: &[u8], start: usize) -> Name
 
 // The name that b begins with. Most are ASCII: their end is found in the same pass.
 fn name_from(b: &[u8], start: usize) -> Name
-    ensures { result ≡ nameFrom start b.now }
+    ensures { result ≡ name_from start b.now }
 {
     let n = plain(b);
     if b.len() <= n {
@@ -71,7 +71,7 @@ pub fn name_of(b: &[u8], s: Span) -> Name
 
 // Its bytes.
 pub fn name_bytes(b: &[u8], n: Name) -> &[u8]
-    ensures { result.now ≡ nameBytes b.now n }
+    ensures { result.now ≡ name_bytes b.now n }
 {
     part(b, n.span)
 }

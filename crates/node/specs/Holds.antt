@@ -4,8 +4,8 @@ use Rattle.std.specs.Prelude.{ℕ, ◌^◌, ◌<◌, ◌≡◌, List}
 use Rattle.error.specs.Answer.{got}
 use Rattle.obj.specs.Block.{block_of}
 use Rattle.obj.specs.declared.reader.Reader.{Reader}
-use Rattle.node.specs.Entry.{keyValueAt}
-use Rattle.node.specs.Place.{keySpan, valueIn, placeAt}
+use Rattle.node.specs.Entry.{key_value_at}
+use Rattle.node.specs.Place.{key_span, placed_value, place_at}
 use Rattle.node.specs.declared.layout.Node.{Node}
 use Rattle.node.specs.declared.layout.Info.{Info}
 use Rattle.node.specs.declared.table.KeyValue.{KeyValue}
@@ -13,10 +13,10 @@ use Rattle.node.specs.declared.place.Place.{Place}
 
 pub record Kept (m : Node) (e : KeyValue) (p : Place) : Type 0 where
   pub block : p.block ≡ m.block
-  pub key : keySpan p ≡ e.key
-  pub value : valueIn p ≡ e.value
+  pub key : key_span p ≡ e.key
+  pub value : placed_value p ≡ e.value
 
 -- with blocks of any size that 32 bits hold
 pub record Holds : Type 0 where
   pub held : (r : Reader) (image : List ℕ) (m : Node) (info : Info) (i : ℕ) (e : KeyValue) → r.block_size < 2 ^ 32 →
-      keyValueAt (block_of r image m.block) m info i ≡ got e → (p : Place) × (placeAt r image m info i ≡ got p) × Kept m e p
+      key_value_at (block_of r image m.block) m info i ≡ got e → (p : Place) × (place_at r image m info i ≡ got p) × Kept m e p

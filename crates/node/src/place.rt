@@ -1,11 +1,11 @@
 // A record's place in 24 bytes: its block, and where its key and its value lie inside the block. Document 02, request 10.
 ghost use Rattle.std.specs.Prelude.{◌≡◌};
-ghost use Rattle.bytes.specs.Part.{part_of};
-ghost use Rattle.node.specs.Place.{placedTold, place_of, placeAt, keySpan, valueSpan, valueIn, key_of, value_of, Small};
+ghost use Rattle.byte_fields.specs.Part.{part_of};
+ghost use Rattle.node.specs.Place.{placed_told, place_of, place_at, key_span, value_span, placed_value, key_of, value_of, Small};
 
 use crate::layout::{Info, Node};
 use crate::table::{Entered, KeyValue, Value, entry};
-use bytes::{Span, part};
+use byte_fields::{Span, part};
 use error::Refusal;
 use obj::Reader;
 
@@ -52,7 +52,7 @@ pub fn place_of(block: u64, e: KeyValue) -> Place
 
 // The place of the i-th entry of a node. A block is shorter than 2^32 bytes, so whatever lies in it fits.
 pub fn entry_place(reader: Reader, image: &[u8], node: Node, info: Info, i: u32) -> Placed
-    ensures { placedTold result ≡ placeAt reader image.now node info i }
+    ensures { placed_told result ≡ place_at reader image.now node info i }
 {
     match entry(reader.block(image, node.block), node, info, i) {
         Entered::Got(e) => Placed::Got(place_of(node.block, e)),
@@ -61,7 +61,7 @@ pub fn entry_place(reader: Reader, image: &[u8], node: Node, info: Info, i: u32)
 }
 
 fn key_span(place: Place) -> Span
-    ensures { result ≡ keySpan place }
+    ensures { result ≡ key_span place }
 {
     Span {
         start: place.key_off as usize,
@@ -70,7 +70,7 @@ fn key_span(place: Place) -> Span
 }
 
 fn value_span(place: Place) -> Span
-    ensures { result ≡ valueSpan place }
+    ensures { result ≡ value_span place }
 {
     Span {
         start: place.val_off as usize,
@@ -80,7 +80,7 @@ fn value_span(place: Place) -> Span
 
 // Where the value lies, if there is one.
 pub fn held_value(place: Place) -> Value
-    ensures { result ≡ valueIn place }
+    ensures { result ≡ placed_value place }
 {
     if place.val_off != 4294967295 {
         return Value::At(value_span(place));
@@ -93,14 +93,14 @@ pub fn held_value(place: Place) -> Value
 
 // The bytes of a record's key, in its block.
 pub fn key_in(b: &[u8], place: Place) -> &[u8]
-    ensures { result.now ≡ part_of b.now (keySpan place) }
+    ensures { result.now ≡ part_of b.now (key_span place) }
 {
     part(b, key_span(place))
 }
 
 // The bytes of a record's value, in its block; none where it is missing.
 pub fn value_in(b: &[u8], place: Place) -> &[u8]
-    ensures { result.now ≡ part_of b.now (valueSpan place) }
+    ensures { result.now ≡ part_of b.now (value_span place) }
 {
     part(b, value_span(place))
 }

@@ -4,7 +4,7 @@ use Rattle.std.specs.Prelude.{ℕ, ◌≡◌, List}
 use Rattle.volume.specs.declared.Volume.{Volume}
 use Rattle.demand.specs.Listing.{trace}
 use Rattle.demand.specs.Demand.{view_of}
-use Rattle.forms.specs.Course.{courseOf, traceIn}
+use Rattle.forms.specs.Course.{course_of, trace_in}
 
 pub record Tied : Type 0 where
-  pub course : (image : List ℕ) (v : Volume) → traceIn (courseOf image v) ≡ trace (view_of image v)
+  pub course : (image : List ℕ) (v : Volume) → trace_in (course_of image v) ≡ trace (view_of image v)

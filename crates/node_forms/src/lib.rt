@@ -1,8 +1,8 @@
 // A node's form holds entry forms, and an entry's form holds a node's: the two writers call each other, and the depth that remains falls.
 ghost use Rattle.std.specs.Prelude.{◌≡◌, []};
 ghost use Rattle.lines.specs.Lines.{close};
-ghost use Rattle.forms.specs.Course.{writes, entryCourse, nodeCourse};
-ghost use Rattle.forms.specs.Inner.{standOf, go};
+ghost use Rattle.forms.specs.Course.{writes, entry_course, node_course};
+ghost use Rattle.forms.specs.Inner.{stand_of, go};
 
 use calls::Progress;
 use cursor::next;
@@ -19,7 +19,7 @@ use volume::Volume;
 
 // The end of a form.
 fn put_close(out: &mut [u8], room: usize, p: Progress) -> Progress
-    ensures { standOf result out.new ≡ go room (writes (close [])) (standOf p out.old) }
+    ensures { stand_of result out.new ≡ go room (writes (close [])) (stand_of p out.old) }
 {
     let at = p.at;
     Progress {
@@ -39,7 +39,7 @@ pub fn put_node(
     id: u64,
     levels: u32,
 ) -> Progress
-    ensures { standOf result out.new ≡ go room (nodeCourse image.now v levels id) (standOf p out.old) }
+    ensures { stand_of result out.new ≡ go room (node_course image.now v levels id) (stand_of p out.old) }
 {
     if levels == 0 {
         let at = p.at;
@@ -103,7 +103,7 @@ fn put_entry(
     e: Entry,
     levels: u32,
 ) -> Progress
-    ensures { standOf result out.new ≡ go room (entryCourse (nodeCourse image.now v levels) image.now v e) (standOf p out.old) }
+    ensures { stand_of result out.new ≡ go room (entry_course (node_course image.now v levels) image.now v e) (stand_of p out.old) }
 {
     let at = p.at;
     let reader = v.reader;

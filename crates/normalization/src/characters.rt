@@ -1,5 +1,5 @@
 // The letters of a character against its recorded decomposition.
-use bytes::{Number, u16_at};
+use byte_fields::{Number, u16_at};
 use keys::{Cursor, Pending, Step, next_letter};
 use name_hash::crc32c_raw;
 

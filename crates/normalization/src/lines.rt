@@ -1,6 +1,6 @@
 // Texts that have one key, or not: lines of NormalizationTest.txt, and marks in different orders.
 use crate::characters::fed;
-use bytes::Number;
+use byte_fields::Number;
 use keys::same_key;
 use name_hash::name_hash;
 

@@ -6,7 +6,7 @@ mod tally;
 
 use crate::record::{CHARACTER, END, LINE, PAIR, Record, filled, next_record};
 use crate::tally::{Tally, counted, report};
-use bytes::{Span, part};
+use byte_fields::{Span, part};
 
 // No file has more records.
 const MOST: u64 = 1000000;

@@ -9,9 +9,9 @@ use Rattle.error.specs.Answer.{Answer, got, no}
 use Rattle.error.specs.declared.Refusal.{Refusal}
 use Rattle.error.specs.declared.Refusal.TheVariants.{NotFound}
 use Rattle.error.proofs.Laws.{same, other}
-use Rattle.bytes.specs.Number.{number_at, told}
-use Rattle.bytes.specs.declared.Number.{Number}
-use Rattle.nx.specs.Slots.{slot_at, slot_of, slotCount, slotsIn, volumesOf, volumeAt}
+use Rattle.byte_fields.specs.Number.{number_at, told}
+use Rattle.byte_fields.specs.declared.Number.{Number}
+use Rattle.nx.specs.Slots.{slot_at, slot_of, slot_count, slots_in, volumes_of, volume_at}
 use Rattle.checkpoints.specs.declared.superblock.Superblock.{Superblock}
 
 module _ (b : List ℕ) (i : ℕ) (r : Number) (p : told r ≡ number_at 8 b (184 + 8 * i)) where
@@ -19,43 +19,43 @@ module _ (b : List ℕ) (i : ℕ) (r : Number) (p : told r ≡ number_at 8 b (18
   unfolding slot_at
   slot_read x q = rw (← p, q)
 
-  pub slot-none : (e : Refusal) → r ≡ Number.No e → 0 ≡ slot_at b i
+  pub slot_none : (e : Refusal) → r ≡ Number.No e → 0 ≡ slot_at b i
   unfolding slot_at
-  slot-none e q = rw (← p, q)
+  slot_none e q = rw (← p, q)
 
-pub slot-in-part : (s u : List ℕ) (i z : ℕ) → s ≡ u → z ≡ slot_at s i → z ≡ slot_at u i
-slot-in-part s u i z e h = rw e at h
+pub slot_in_part : (s u : List ℕ) (i z : ℕ) → s ≡ u → z ≡ slot_at s i → z ≡ slot_at u i
+slot_in_part s u i z e h = rw e at h
 
 module _ (image : List ℕ) (sb : Superblock) where
-  pub slots-start : (n index : ℕ) → n ≡ slotCount sb → volumeAt index (slotsIn image sb (n - 0) 0) ≡ volumeAt index (volumesOf image sb)
-  slots-start n index e = rw (sub-zero, e)
+  pub slots_start : (n index : ℕ) → n ≡ slot_count sb → volume_at index (slots_in image sb (n - 0) 0) ≡ volume_at index (volumes_of image sb)
+  slots_start n index e = rw (sub-zero, e)
 
-  module _ (n i left : ℕ) (whole : Answer ℕ) (p : volumeAt left (slotsIn image sb (n - i) i) ≡ whole) where
-    pub slots-done : n ≤ i → no NotFound ≡ whole
-    unfolding slotsIn volumeAt
-    slots-done h = let q : n - i ≡ 0 = omega arith in rw q at p
+  module _ (n i left : ℕ) (whole : Answer ℕ) (p : volume_at left (slots_in image sb (n - i) i) ≡ whole) where
+    pub slots_done : n ≤ i → no NotFound ≡ whole
+    unfolding slots_in volume_at
+    slots_done h = let q : n - i ≡ 0 = omega arith in rw q at p
 
     module _ (h : i < n) (oid : ℕ) (e : oid ≡ slot_of image sb i) where
-      pub slots-zero : oid ≡ 0 → volumeAt left (slotsIn image sb (n - (i + 1)) (i + 1)) ≡ whole
-      unfolding slotsIn
-      slots-zero z =
+      pub slots_zero : oid ≡ 0 → volume_at left (slots_in image sb (n - (i + 1)) (i + 1)) ≡ whole
+      unfolding slots_in
+      slots_zero z =
           let q : n - i ≡ suc (n - (i + 1)) = omega arith in
           let k : slot_of image sb i ≡ 0 = sym e ∙ z in
-          ap (volumeAt left) (same _ _ _ _ _ k refl) ∙ (rw q at p)
+          ap (volume_at left) (same _ _ _ _ _ k refl) ∙ (rw q at p)
 
-      one : (oid ≡ 0 → ⊥) → volumeAt left (oid ∷ slotsIn image sb (n - (i + 1)) (i + 1)) ≡ whole
-      unfolding slotsIn
+      one : (oid ≡ 0 → ⊥) → volume_at left (oid ∷ slots_in image sb (n - (i + 1)) (i + 1)) ≡ whole
+      unfolding slots_in
       one z =
           let q : n - i ≡ suc (n - (i + 1)) = omega arith in
           let k : slot_of image sb i ≡ 0 → ⊥ = λ t. z (e ∙ t) in
-          rw e (ap (volumeAt left) (other _ _ _ _ _ k refl) ∙ (rw q at p))
+          rw e (ap (volume_at left) (other _ _ _ _ _ k refl) ∙ (rw q at p))
 
-      pub slots-here : (oid ≡ 0 → ⊥) → left ≡ 0 → got oid ≡ whole
-      unfolding volumeAt
-      slots-here z t = rw t at (one z)
+      pub slots_here : (oid ≡ 0 → ⊥) → left ≡ 0 → got oid ≡ whole
+      unfolding volume_at
+      slots_here z t = rw t at (one z)
 
-      pub slots-past : (oid ≡ 0 → ⊥) → (left ≡ 0 → ⊥) → volumeAt (left - 1) (slotsIn image sb (n - (i + 1)) (i + 1)) ≡ whole
-      unfolding volumeAt
-      slots-past z t = let q : left ≡ suc (left - 1) = omega arith in rw q at (one z)
+      pub slots_past : (oid ≡ 0 → ⊥) → (left ≡ 0 → ⊥) → volume_at (left - 1) (slots_in image sb (n - (i + 1)) (i + 1)) ≡ whole
+      unfolding volume_at
+      slots_past z t = let q : left ≡ suc (left - 1) = omega arith in rw q at (one z)
 
-pub ruleset slots = (rules, slot_read, slot-none, slots-start, slots-done, slots-zero, slots-here, slots-past)
+pub ruleset slots = (rules, slot_read, slot_none, slots_start, slots_done, slots_zero, slots_here, slots_past)

@@ -1,33 +1,33 @@
 -- A volume's superblock. Apple File System Reference, "Volumes", apfs_superblock_t; document 01, nx.rs.
 use Rattle.std.specs.Prelude.{ℕ, List}
 use Rattle.std.proofs.Math.Option.{Option, none, some}
-use Rattle.error.specs.Answer.{Answer, got, no, ◌>>=◌, ifEq}
+use Rattle.error.specs.Answer.{Answer, got, no, ◌>>=◌, if_eq}
 use Rattle.error.specs.declared.Refusal.TheVariants.{Corrupt}
-use Rattle.bytes.specs.Number.{number_at}
-use Rattle.bytes.specs.Part.{part_of}
-use Rattle.obj.specs.Block.{objectAt}
+use Rattle.byte_fields.specs.Number.{number_at}
+use Rattle.byte_fields.specs.Part.{part_of}
+use Rattle.obj.specs.Block.{object_at}
 use Rattle.obj.specs.Header.{header_at, kind_of}
 use Rattle.obj.specs.declared.reader.Reader.{Reader}
 use Rattle.lookup.specs.Counted.{Counted, after, from, onto}
-use Rattle.lookup.specs.Map.{mapLookup}
+use Rattle.lookup.specs.Map.{map_lookup}
 use Rattle.lookup.specs.declared.map.MapValue.{MapValue}
-use Rattle.nx.specs.Slots.{volumesOf, volumeAt}
+use Rattle.nx.specs.Slots.{volumes_of, volume_at}
 use Rattle.nx.specs.declared.container.Container.{Container}
 use Rattle.nx.specs.declared.volume.VolumeSuperblock.{VolumeSuperblock}
 use Rattle.nx.specs.declared.volume.VolumeRead.{VolumeRead}
 use Rattle.nx.specs.declared.volume.VolumeRead.TheVariants.{Got, No}
 use Rattle.nx.specs.declared.volume.VolumeFound.{VolumeFound}
 
-abbrev pub volumeTold : VolumeRead → Answer VolumeSuperblock
-volumeTold (Got v) = got v
-volumeTold (No e) = no e
+abbrev pub volume_told : VolumeRead → Answer VolumeSuperblock
+volume_told (Got v) = got v
+volume_told (No e) = no e
 
-abbrev pub volumeFound : VolumeFound → Counted VolumeSuperblock
-volumeFound r = after r.nodes (volumeTold r.volume)
+abbrev pub volume_found : VolumeFound → Counted VolumeSuperblock
+volume_found r = after r.nodes (volume_told r.volume)
 
 -- apfs_incompatible_features, apfs_omap_oid, apfs_root_tree_oid, apfs_fs_flags
-unfoldable pub fieldsIn : List ℕ → ℕ → Answer VolumeSuperblock
-fieldsIn b block =
+unfoldable pub fields_in : List ℕ → ℕ → Answer VolumeSuperblock
+fields_in b block =
     number_at 8 b 56 >>= λ incompat.
     number_at 8 b 128 >>= λ omap.
     number_at 8 b 136 >>= λ tree.
@@ -35,25 +35,25 @@ fieldsIn b block =
     got (record { block = block; incompat = incompat; omap_oid = omap; root_tree_oid = tree; fs_flags = flags })
 
 -- kind 0x0d and the magic APSB, else 2
-unfoldable pub volumeIn : List ℕ → ℕ → Answer VolumeSuperblock
-volumeIn b block =
+unfoldable pub volume_in : List ℕ → ℕ → Answer VolumeSuperblock
+volume_in b block =
     header_at b >>= λ h.
-    ifEq (kind_of h) 0x0d
-    (number_at 4 b 32 >>= λ magic. ifEq magic 0x42535041 (fieldsIn b block) (no Corrupt))
+    if_eq (kind_of h) 0x0d
+    (number_at 4 b 32 >>= λ magic. if_eq magic 0x42535041 (fields_in b block) (no Corrupt))
     (no Corrupt)
 
-unfoldable pub volumeBlock : Reader → List ℕ → ℕ → Answer VolumeSuperblock
-volumeBlock r image p = objectAt r image p >>= λ s. volumeIn (part_of image s) p
+unfoldable pub volume_block : Reader → List ℕ → ℕ → Answer VolumeSuperblock
+volume_block r image p = object_at r image p >>= λ s. volume_in (part_of image s) p
 
 -- omap.rs: "absent, which callers turn into 2"
-abbrev pub volumeOf : Reader → List ℕ → Option MapValue → Answer VolumeSuperblock
-volumeOf r image none = no Corrupt
-volumeOf r image (some v) = volumeBlock r image v.paddr
+abbrev pub volume_of : Reader → List ℕ → Option MapValue → Answer VolumeSuperblock
+volume_of r image none = no Corrupt
+volume_of r image (some v) = volume_block r image v.paddr
 
 -- the superblock of a volume's object id, s nodes having been gone through before
-unfoldable pub mappedVolume : List ℕ → Container → ℕ → ℕ → Counted VolumeSuperblock
-mappedVolume image c oid s = onto (mapLookup c.reader image c.map oid s) λ v t. after t (volumeOf c.reader image v)
+unfoldable pub mapped_volume : List ℕ → Container → ℕ → ℕ → Counted VolumeSuperblock
+mapped_volume image c oid s = onto (map_lookup c.reader image c.map oid s) λ v t. after t (volume_of c.reader image v)
 
 -- that of the volume at an index
-unfoldable pub volumeSuperblock : List ℕ → Container → ℕ → ℕ → Counted VolumeSuperblock
-volumeSuperblock image c index s = from s (volumeAt index (volumesOf image c.sb)) λ oid. mappedVolume image c oid s
+unfoldable pub volume_superblock : List ℕ → Container → ℕ → ℕ → Counted VolumeSuperblock
+volume_superblock image c index s = from s (volume_at index (volumes_of image c.sb)) λ oid. mapped_volume image c oid s

@@ -1,7 +1,7 @@
 // Opening a container.
 ghost use Rattle.std.specs.Prelude.{◌≡◌};
-ghost use Rattle.checkpoints.specs.Superblock.{superTold};
-ghost use Rattle.nx.specs.Open.{supported, chosen_of, openedTold, mappedOf, containerOf, open_at};
+ghost use Rattle.checkpoints.specs.Superblock.{super_told};
+ghost use Rattle.nx.specs.Open.{supported, chosen_of, opened_told, mapped_of, container_of, open_at};
 
 use checkpoints::{Choice, Superblock, Superblocked, checkpoint_by};
 use error::Refusal;
@@ -32,7 +32,7 @@ pub struct Opened {
 
 // Version 1 and Fusion containers are refused.
 fn supported_of(sb: Superblock) -> Superblocked
-    ensures { superTold result ≡ supported sb }
+    ensures { super_told result ≡ supported sb }
 {
     if sb.incompat % 2 == 1 {
         return Superblocked::No(Refusal::Unsupported);
@@ -44,7 +44,7 @@ fn supported_of(sb: Superblock) -> Superblocked
 }
 
 fn chosen_of(image: &[u8], g: Geometry, choice: Choice) -> Superblocked
-    ensures { superTold result ≡ chosen_of choice image.now g }
+    ensures { super_told result ≡ chosen_of choice image.now g }
 {
     match checkpoint_by(image, g, choice) {
         Superblocked::Got(sb) => supported_of(sb),
@@ -54,7 +54,7 @@ fn chosen_of(image: &[u8], g: Geometry, choice: Choice) -> Superblocked
 
 // The container of a checkpoint, its object map loaded.
 fn mapped_of(image: &[u8], reader: Reader, sb: Superblock) -> Opened
-    ensures { openedTold result ≡ mappedOf image.now reader sb }
+    ensures { opened_told result ≡ mapped_of image.now reader sb }
 {
     let loaded = omap::load(reader, image, sb.omap_oid, sb.xid, 0);
     let map = loaded.map;
@@ -75,7 +75,7 @@ fn mapped_of(image: &[u8], reader: Reader, sb: Superblock) -> Opened
 }
 
 fn container_of(image: &[u8], g: Geometry, choice: Choice) -> Opened
-    ensures { openedTold result ≡ containerOf choice image.now g }
+    ensures { opened_told result ≡ container_of choice image.now g }
 {
     match chosen_of(image, g, choice) {
         Superblocked::Got(sb) => {
@@ -91,7 +91,7 @@ fn container_of(image: &[u8], g: Geometry, choice: Choice) -> Opened
 
 // The container at the checkpoint that is chosen.
 pub fn open(image: &[u8], choice: Choice) -> Opened
-    ensures { openedTold result ≡ open_at choice image.now }
+    ensures { opened_told result ≡ open_at choice image.now }
 {
     if 17179869184 < image.len() {
         return Opened {

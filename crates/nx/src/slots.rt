@@ -1,9 +1,9 @@
 // The volume slots of a superblock: the first 100 at most, zeros dropped.
 ghost use Rattle.std.specs.Prelude.{◌≡◌};
-ghost use Rattle.bytes.specs.Number.{told};
-ghost use Rattle.nx.specs.Slots.{slot_at, slotCount, slot_of, volumesOf, volumeAt};
+ghost use Rattle.byte_fields.specs.Number.{told};
+ghost use Rattle.nx.specs.Slots.{slot_at, slot_count, slot_of, volumes_of, volume_at};
 
-use bytes::{Number, part, u64_at};
+use byte_fields::{Number, part, u64_at};
 use checkpoints::Superblock;
 use error::Refusal;
 
@@ -18,7 +18,7 @@ fn slot_at(b: &[u8], i: u32) -> u64
 }
 
 pub fn slot_count(sb: Superblock) -> u32
-    ensures { result ≡ slotCount sb }
+    ensures { result ≡ slot_count sb }
 {
     if 100 < sb.max_volumes {
         return 100;
@@ -36,7 +36,7 @@ pub fn slot_of(image: &[u8], sb: Superblock, i: u32) -> u64
 
 // The object id of a volume by its index among the slots in use.
 pub fn volume_oid(image: &[u8], sb: Superblock, index: u64) -> Number
-    ensures { told result ≡ volumeAt index (volumesOf image.now sb) }
+    ensures { told result ≡ volume_at index (volumes_of image.now sb) }
 {
     let n = slot_count(sb);
     let mut left = index;

@@ -1,10 +1,10 @@
 // The superblock of a volume (`apfs_superblock_t`), found through the container's object map.
 ghost use Rattle.std.specs.Prelude.{◌≡◌};
-ghost use Rattle.nx.specs.Volume.{volumeTold, fieldsIn, volumeIn, volumeBlock, volumeFound, mappedVolume, volumeSuperblock};
+ghost use Rattle.nx.specs.Volume.{volume_told, fields_in, volume_in, volume_block, volume_found, mapped_volume, volume_superblock};
 
 use crate::container::Container;
 use crate::slots::volume_oid;
-use bytes::{Number, Sliced, part, u32_at, u64_at};
+use byte_fields::{Number, Sliced, part, u32_at, u64_at};
 use error::Refusal;
 use lookup::{Mapping, look_up};
 use obj::{Parsed, Reader};
@@ -32,7 +32,7 @@ pub struct VolumeFound {
 }
 
 fn fields_in(b: &[u8], block: u64) -> VolumeRead
-    ensures { volumeTold result ≡ fieldsIn b.now block }
+    ensures { volume_told result ≡ fields_in b.now block }
 {
     let incompat = match u64_at(b, 56) {
         Number::Got(x) => x,
@@ -59,7 +59,7 @@ fn fields_in(b: &[u8], block: u64) -> VolumeRead
 }
 
 fn volume_in(b: &[u8], block: u64) -> VolumeRead
-    ensures { volumeTold result ≡ volumeIn b.now block }
+    ensures { volume_told result ≡ volume_in b.now block }
 {
     match obj::parse(b) {
         Parsed::Got(h) => {
@@ -81,7 +81,7 @@ fn volume_in(b: &[u8], block: u64) -> VolumeRead
 }
 
 fn volume_block(reader: Reader, image: &[u8], paddr: u64) -> VolumeRead
-    ensures { volumeTold result ≡ volumeBlock reader image.now paddr }
+    ensures { volume_told result ≡ volume_block reader image.now paddr }
 {
     match reader.read_object(image, paddr) {
         Sliced::Got(s) => volume_in(part(image, s), paddr),
@@ -91,7 +91,7 @@ fn volume_block(reader: Reader, image: &[u8], paddr: u64) -> VolumeRead
 
 // A volume's superblock by its object id.
 fn mapped_volume(image: &[u8], c: Container, oid: u64, nodes: u64) -> VolumeFound
-    ensures { volumeFound result ≡ mappedVolume image.now c oid nodes }
+    ensures { volume_found result ≡ mapped_volume image.now c oid nodes }
 {
     let reader = c.reader;
     let map = c.map;
@@ -115,7 +115,7 @@ fn mapped_volume(image: &[u8], c: Container, oid: u64, nodes: u64) -> VolumeFoun
 
 // A volume's superblock by its index in container order.
 pub fn volume_superblock(image: &[u8], c: Container, index: u64, nodes: u64) -> VolumeFound
-    ensures { volumeFound result ≡ volumeSuperblock image.now c index nodes }
+    ensures { volume_found result ≡ volume_superblock image.now c index nodes }
 {
     let sb = c.sb;
     match volume_oid(image, sb, index) {

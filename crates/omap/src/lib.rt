@@ -1,11 +1,11 @@
 // Object maps (`omap_phys_t`): a map is loaded from its object; its mappings are looked up by `lookup::look_up` (omap.rs).
 ghost use Rattle.std.specs.Prelude.{◌≡◌};
-ghost use Rattle.bytes.specs.Number.{told};
-ghost use Rattle.node.specs.Node.{infoTold};
-ghost use Rattle.omap.specs.Load.{treeIn, treeAt, physical, layout_of, loadedTold, mapOf, mapAt};
+ghost use Rattle.byte_fields.specs.Number.{told};
+ghost use Rattle.node.specs.Node.{info_told};
+ghost use Rattle.omap.specs.Load.{tree_in, tree_at, physical, layout_of, loaded_told, map_of, map_at};
 
 use arith::tick;
-use bytes::{Number, Sliced, part, u32_at, u64_at};
+use byte_fields::{Number, Sliced, part, u32_at, u64_at};
 use error::Refusal;
 use lookup::{Map, read_node};
 use node::{Info, Informed, Node, Parsed, info_of};
@@ -26,7 +26,7 @@ pub struct Loaded {
 
 // The address of the tree's root, in the bytes of a map's object.
 fn tree_in(b: &[u8]) -> Number
-    ensures { told result ≡ treeIn b.now }
+    ensures { told result ≡ tree_in b.now }
 {
     match obj::parse(b) {
         obj::Parsed::Got(h) => {
@@ -48,7 +48,7 @@ fn tree_in(b: &[u8]) -> Number
 }
 
 fn tree_at(reader: Reader, image: &[u8], paddr: u64) -> Number
-    ensures { told result ≡ treeAt reader image.now paddr }
+    ensures { told result ≡ tree_at reader image.now paddr }
 {
     match reader.read_object(image, paddr) {
         Sliced::Got(s) => tree_in(part(image, s)),
@@ -58,7 +58,7 @@ fn tree_at(reader: Reader, image: &[u8], paddr: u64) -> Number
 
 // A map's tree is physical, with keys and values of 16 bytes.
 fn physical_info(info: Info) -> Informed
-    ensures { infoTold result ≡ physical info }
+    ensures { info_told result ≡ physical info }
 {
     if info.flags / 16 % 2 == 0 {
         return Informed::No(Refusal::Corrupt);
@@ -73,7 +73,7 @@ fn physical_info(info: Info) -> Informed
 }
 
 fn layout_of(reader: Reader, image: &[u8], root: Node) -> Informed
-    ensures { infoTold result ≡ layout_of reader image.now root }
+    ensures { info_told result ≡ layout_of reader image.now root }
 {
     match info_of(reader.block(image, root.block), root) {
         Informed::Got(info) => physical_info(info),
@@ -83,7 +83,7 @@ fn layout_of(reader: Reader, image: &[u8], root: Node) -> Informed
 
 // The map of a tree's root.
 fn with_root(reader: Reader, image: &[u8], root: Node, xid: u64, nodes: u64) -> Loaded
-    ensures { loadedTold result ≡ mapOf reader image.now root xid nodes }
+    ensures { loaded_told result ≡ map_of reader image.now root xid nodes }
 {
     match layout_of(reader, image, root) {
         Informed::Got(info) => Loaded {
@@ -103,7 +103,7 @@ fn with_root(reader: Reader, image: &[u8], root: Node, xid: u64, nodes: u64) -> 
 
 // The map whose object lies at an address, as of a transaction.
 pub fn load(reader: Reader, image: &[u8], paddr: u64, xid: u64, nodes: u64) -> Loaded
-    ensures { loadedTold result ≡ mapAt reader image.now paddr xid nodes }
+    ensures { loaded_told result ≡ map_at reader image.now paddr xid nodes }
 {
     match tree_at(reader, image, paddr) {
         Number::Got(tree) => match read_node(reader, image, tree) {

@@ -1,15 +1,15 @@
 // The line of the part of an image that a container is in.
 ghost use Rattle.std.specs.Prelude.{◌≡◌, []};
-ghost use Rattle.text.specs.Output.{outputOf, puts};
-ghost use Rattle.calls.specs.Filled.{filledAt, filled, filledBy};
-ghost use Rattle.part_line.specs.Line.{partLine, partText};
+ghost use Rattle.text.specs.Output.{output_of, puts};
+ghost use Rattle.calls.specs.Filled.{filled_at, filled, filled_by};
+ghost use Rattle.part_line.specs.Line.{part_line, part_text};
 
-use bytes::{Sliced, Span};
+use byte_fields::{Sliced, Span};
 use gpt::part_of_image;
 use text::{Position, put_all, put_decimal};
 
 fn put_part(out: &mut [u8], room: usize, p: Position, s: Span) -> Position
-    ensures { outputOf result out.new ≡ puts room (partLine s []) (outputOf p out.old) }
+    ensures { output_of result out.new ≡ puts room (part_line s []) (output_of p out.old) }
 {
     let a = put_all(out, room, p, b"(part ");
     let b = put_decimal(out, room, a, s.start as u64);
@@ -20,7 +20,7 @@ fn put_part(out: &mut [u8], room: usize, p: Position, s: Span) -> Position
 
 // Measured first: a buffer that is too short is left as it was.
 fn show(s: Span, out: &mut [u8]) -> Position
-    ensures { filledAt result out.new ≡ filled (partLine s []) out.old }
+    ensures { filled_at result out.new ≡ filled (part_line s []) out.old }
 {
     let room = out.len();
     match put_part(&mut out[..0], room, Position::At(0), s) {
@@ -30,7 +30,7 @@ fn show(s: Span, out: &mut [u8]) -> Position
 }
 
 pub fn part_text(image: &[u8], out: &mut [u8]) -> Position
-    ensures { filledAt result out.new ≡ filledBy (partText image.now) out.old }
+    ensures { filled_at result out.new ≡ filled_by (part_text image.now) out.old }
 {
     match part_of_image(image) {
         Sliced::Got(s) => show(s, out),

@@ -3,36 +3,36 @@ use Prim.Native.Nat.{ℕ, zero, suc}
 use mathlib.Core.Path.{◌≡◌, refl}
 use mathlib.Core.Bool.{true, false}
 use mathlib.Core.List.{List, [], ◌∷◌}
-use Rattle.error.specs.Answer.{got, no, ifLe, ifEq}
+use Rattle.error.specs.Answer.{got, no, if_le, if_eq}
 use Rattle.error.specs.declared.Refusal.TheVariants.{NotFound, CharacterNotCovered}
-use Rattle.utf8.specs.Text.{ifIn, rest_of, agree, piece_of, sameBytes}
-use Rattle.utf8.specs.Characters.{scalarOf, charactersIn, characters}
-use Rattle.unicode.specs.Data.{anyIn, class_of, inRows, decompose, lowerOne, lower}
-use Rattle.unicode.specs.Keys.{flat, ifReorderable, place, canonical, fold, key_of, allCovered, coveredText, sameKeys}
+use Rattle.utf8.specs.Text.{if_in, rest_of, agree, piece_of, same_bytes}
+use Rattle.utf8.specs.Characters.{scalar_of, characters_in, characters}
+use Rattle.unicode_forms.specs.Data.{any_in, class_of, in_rows, decompose, lower_one, lower}
+use Rattle.unicode_forms.specs.Keys.{flat, if_reorderable, place, canonical, fold, key_of, all_covered, covered_text, same_keys}
 use Rattle.records.specs.declared.directory.Entry.{Entry}
-use Rattle.paths.specs.Parts.{isSeparator, splitOf, parts_of}
-use Rattle.paths.specs.Inner.{leading, nextPart}
-use Rattle.paths.specs.Find.{exactMatch, keyMatch, findEntry}
+use Rattle.paths.specs.Parts.{is_separator, split_of, parts_of}
+use Rattle.paths.specs.Inner.{leading, next_part}
+use Rattle.paths.specs.Find.{exact_match, key_match, find_entry}
 use Rattle.volume.specs.declared.rule.NameRule.{NameRule}
 
 -- document 01, "Marked lines of the table": "paths "" and "//" are the root"
-pub parts-slashes : parts_of (47 ∷ 47 ∷ []) ≡ []
-unfolding parts_of splitOf isSeparator ifEq
-parts-slashes = refl
+pub parts_slashes : parts_of (47 ∷ 47 ∷ []) ≡ []
+unfolding parts_of split_of is_separator if_eq
+parts_slashes = refl
 
 -- "/a\\Aa/b/"
 mixed : parts_of (47 ∷ 97 ∷ 92 ∷ 92 ∷ 65 ∷ 97 ∷ 47 ∷ 98 ∷ 47 ∷ []) ≡ (97 ∷ []) ∷ (65 ∷ 97 ∷ []) ∷ (98 ∷ []) ∷ []
-unfolding parts_of splitOf isSeparator ifEq
+unfolding parts_of split_of is_separator if_eq
 mixed = refl
 
 -- "a"
-no-separators : parts_of (97 ∷ []) ≡ (97 ∷ []) ∷ []
-unfolding parts_of splitOf isSeparator ifEq
-no-separators = refl
+no_separators : parts_of (97 ∷ []) ≡ (97 ∷ []) ∷ []
+unfolding parts_of split_of is_separator if_eq
+no_separators = refl
 
 -- the second part of "a//b", from the place after the first
-second : nextPart (97 ∷ 47 ∷ 47 ∷ 98 ∷ []) 1 ≡ record { start = 3; len = 1 }
-unfolding nextPart leading isSeparator ifEq
+second : next_part (97 ∷ 47 ∷ 47 ∷ 98 ∷ []) 1 ≡ record { start = 3; len = 1 }
+unfolding next_part leading is_separator if_eq
 second = refl
 
 -- entries 0 to 3 of a directory, by their ids: "A", "a", "a", and U+2126, which is outside the ranges
@@ -58,43 +58,43 @@ sensitive : NameRule
 sensitive = record { case_insensitive = false; normalization_insensitive = false }
 
 -- an exactly equal name comes before an earlier one with an equal key, and the first of two exactly equal names is taken
-exact-first : findEntry case_insensitive name_of (97 ∷ []) (entry 0 ∷ entry 1 ∷ entry 2 ∷ []) ≡ got (entry 1)
-unfolding findEntry exactMatch sameBytes ifEq name_of named entry
-exact-first = refl
+exact_first : find_entry case_insensitive name_of (97 ∷ []) (entry 0 ∷ entry 1 ∷ entry 2 ∷ []) ≡ got (entry 1)
+unfolding find_entry exact_match same_bytes if_eq name_of named entry
+exact_first = refl
 
 -- an exactly equal name is taken behind one that is not covered, and may itself not be covered
-exact-behind : findEntry case_insensitive name_of (97 ∷ []) (entry 3 ∷ entry 1 ∷ []) ≡ got (entry 1)
-unfolding findEntry exactMatch sameBytes ifEq name_of named entry
-exact-behind = refl
+exact_behind : find_entry case_insensitive name_of (97 ∷ []) (entry 3 ∷ entry 1 ∷ []) ≡ got (entry 1)
+unfolding find_entry exact_match same_bytes if_eq name_of named entry
+exact_behind = refl
 
-exact-wide : findEntry case_insensitive name_of (0xE2 ∷ 0x84 ∷ 0xA6 ∷ []) (entry 0 ∷ entry 3 ∷ []) ≡ got (entry 3)
-unfolding findEntry exactMatch sameBytes ifEq name_of named entry
-exact-wide = refl
+exact_wide : find_entry case_insensitive name_of (0xE2 ∷ 0x84 ∷ 0xA6 ∷ []) (entry 0 ∷ entry 3 ∷ []) ≡ got (entry 3)
+unfolding find_entry exact_match same_bytes if_eq name_of named entry
+exact_wide = refl
 
 -- else the first with an equal key, before one that is not covered
-keyed : findEntry case_insensitive name_of (65 ∷ []) (entry 1 ∷ entry 2 ∷ entry 3 ∷ []) ≡ got (entry 1)
-unfolding findEntry exactMatch keyMatch sameKeys key_of canonical place ifReorderable flat fold decompose inRows lower lowerOne class_of coveredText allCovered characters charactersIn scalarOf piece_of rest_of agree anyIn ifIn sameBytes ifEq ifLe name_of named entry case_insensitive
+keyed : find_entry case_insensitive name_of (65 ∷ []) (entry 1 ∷ entry 2 ∷ entry 3 ∷ []) ≡ got (entry 1)
+unfolding find_entry exact_match key_match same_keys key_of canonical place if_reorderable flat fold decompose in_rows lower lower_one class_of covered_text all_covered characters characters_in scalar_of piece_of rest_of agree any_in if_in same_bytes if_eq if_le name_of named entry case_insensitive
 keyed = refl
 
 -- 9 behind one that is not covered
-keyed-behind : findEntry case_insensitive name_of (65 ∷ []) (entry 3 ∷ entry 1 ∷ []) ≡ no CharacterNotCovered
-unfolding findEntry exactMatch keyMatch sameKeys key_of canonical place ifReorderable flat fold decompose inRows lower lowerOne class_of coveredText allCovered characters charactersIn scalarOf piece_of rest_of agree anyIn ifIn sameBytes ifEq ifLe name_of named entry case_insensitive
-keyed-behind = refl
+keyed_behind : find_entry case_insensitive name_of (65 ∷ []) (entry 3 ∷ entry 1 ∷ []) ≡ no CharacterNotCovered
+unfolding find_entry exact_match key_match same_keys key_of canonical place if_reorderable flat fold decompose in_rows lower lower_one class_of covered_text all_covered characters characters_in scalar_of piece_of rest_of agree any_in if_in same_bytes if_eq if_le name_of named entry case_insensitive
+keyed_behind = refl
 
 -- where only normalization does not count, case does, and 9 is met all the same
-cased : findEntry normalization_insensitive name_of (65 ∷ []) (entry 1 ∷ entry 2 ∷ []) ≡ no NotFound
-unfolding findEntry exactMatch keyMatch sameKeys key_of canonical place ifReorderable flat fold decompose inRows lower lowerOne class_of coveredText allCovered characters charactersIn scalarOf piece_of rest_of agree anyIn ifIn sameBytes ifEq ifLe name_of named entry normalization_insensitive
+cased : find_entry normalization_insensitive name_of (65 ∷ []) (entry 1 ∷ entry 2 ∷ []) ≡ no NotFound
+unfolding find_entry exact_match key_match same_keys key_of canonical place if_reorderable flat fold decompose in_rows lower lower_one class_of covered_text all_covered characters characters_in scalar_of piece_of rest_of agree any_in if_in same_bytes if_eq if_le name_of named entry normalization_insensitive
 cased = refl
 
-cased-behind : findEntry normalization_insensitive name_of (65 ∷ []) (entry 1 ∷ entry 3 ∷ []) ≡ no CharacterNotCovered
-unfolding findEntry exactMatch keyMatch sameKeys key_of canonical place ifReorderable flat fold decompose inRows lower lowerOne class_of coveredText allCovered characters charactersIn scalarOf piece_of rest_of agree anyIn ifIn sameBytes ifEq ifLe name_of named entry normalization_insensitive
-cased-behind = refl
+cased_behind : find_entry normalization_insensitive name_of (65 ∷ []) (entry 1 ∷ entry 3 ∷ []) ≡ no CharacterNotCovered
+unfolding find_entry exact_match key_match same_keys key_of canonical place if_reorderable flat fold decompose in_rows lower lower_one class_of covered_text all_covered characters characters_in scalar_of piece_of rest_of agree any_in if_in same_bytes if_eq if_le name_of named entry normalization_insensitive
+cased_behind = refl
 
 -- a part that is not covered is 9 in an empty directory, but 4 on a sensitive volume
-part-first : findEntry case_insensitive name_of (0xE2 ∷ 0x84 ∷ 0xA6 ∷ []) [] ≡ no CharacterNotCovered
-unfolding findEntry exactMatch coveredText allCovered characters charactersIn scalarOf piece_of rest_of agree anyIn ifIn ifLe ifEq case_insensitive
-part-first = refl
+part_first : find_entry case_insensitive name_of (0xE2 ∷ 0x84 ∷ 0xA6 ∷ []) [] ≡ no CharacterNotCovered
+unfolding find_entry exact_match covered_text all_covered characters characters_in scalar_of piece_of rest_of agree any_in if_in if_le if_eq case_insensitive
+part_first = refl
 
-part-sensitive : findEntry sensitive name_of (0xE2 ∷ 0x84 ∷ 0xA7 ∷ []) (entry 3 ∷ []) ≡ no NotFound
-unfolding findEntry exactMatch sameBytes ifEq name_of named entry sensitive
-part-sensitive = refl
+part_sensitive : find_entry sensitive name_of (0xE2 ∷ 0x84 ∷ 0xA7 ∷ []) (entry 3 ∷ []) ≡ no NotFound
+unfolding find_entry exact_match same_bytes if_eq name_of named entry sensitive
+part_sensitive = refl

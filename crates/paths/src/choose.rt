@@ -1,8 +1,8 @@
 // The entry of a directory that a part of a path names, chosen entry after entry.
 ghost use Rattle.std.specs.Prelude.{◌≡◌};
-ghost use Rattle.records.specs.Directory.{entryTold};
+ghost use Rattle.records.specs.Directory.{entry_told};
 ghost use Rattle.utf8.specs.Text.{lossy};
-ghost use Rattle.paths.specs.Inner.{noneYet, unlessExact, byKey, weighed, settled};
+ghost use Rattle.paths.specs.Inner.{none_yet, unless_exact, by_key, weighed, settled};
 
 use error::Refusal;
 use keys::{Verdict, covers, keys_say};
@@ -22,7 +22,7 @@ pub enum Choice {
 
 // The part's own test comes first, and a sensitive volume has no keys to compare.
 pub fn none_yet(rule: NameRule, part: &[u8]) -> Choice
-    ensures { result ≡ noneYet rule part.now }
+    ensures { result ≡ none_yet rule part.now }
 {
     if !insensitive(rule) {
         return Choice::No(Refusal::NotFound);
@@ -34,7 +34,7 @@ pub fn none_yet(rule: NameRule, part: &[u8]) -> Choice
 }
 
 fn unless_exact(name: &[u8], part: &[u8], e: Entry, other: Choice) -> Choice
-    ensures { result ≡ unlessExact (lossy name.now) part.now e other }
+    ensures { result ≡ unless_exact (lossy name.now) part.now e other }
 {
     if reads_as(name, part) {
         return Choice::Exact(e);
@@ -43,7 +43,7 @@ fn unless_exact(name: &[u8], part: &[u8], e: Entry, other: Choice) -> Choice
 }
 
 fn by_key(rule: NameRule, name: &[u8], part: &[u8], e: Entry) -> Choice
-    ensures { result ≡ byKey rule (lossy name.now) part.now e }
+    ensures { result ≡ by_key rule (lossy name.now) part.now e }
 {
     match keys_say(part, name, rule.case_insensitive) {
         Verdict::Same => Choice::Keyed(e),
@@ -66,7 +66,7 @@ pub fn weigh(rule: NameRule, choice: Choice, name: &[u8], part: &[u8], e: Entry)
 
 // What is known after the last entry.
 pub fn settle(choice: Choice) -> EntryRead
-    ensures { entryTold result ≡ settled choice }
+    ensures { entry_told result ≡ settled choice }
 {
     match choice {
         Choice::Open => EntryRead::No(Refusal::NotFound),

@@ -1,13 +1,13 @@
 // The parts of a path.
 ghost use Rattle.std.specs.Prelude.{◌≡◌, ◌+◌, ◌≤◌, length, drop};
-ghost use Rattle.paths.specs.Parts.{isSeparator};
-ghost use Rattle.paths.specs.Inner.{leading, nextPart};
+ghost use Rattle.paths.specs.Parts.{is_separator};
+ghost use Rattle.paths.specs.Inner.{leading, next_part};
 
-use bytes::Span;
+use byte_fields::Span;
 
 // Paths split on / and on \.
 fn is_separator(b: u8) -> bool
-    ensures { result ≡ isSeparator b }
+    ensures { result ≡ is_separator b }
 {
     if b == 47 {
         return true;
@@ -31,7 +31,7 @@ fn past(path: &[u8], at: usize, separators: bool) -> usize
 
 // The next part from `at` on, empty where there is none.
 pub fn next_part(path: &[u8], at: usize) -> Span
-    ensures { result ≡ nextPart path.now at }
+    ensures { result ≡ next_part path.now at }
 {
     let start = past(path, at, true);
     let end = past(path, start, false);
@@ -44,7 +44,7 @@ pub fn next_part(path: &[u8], at: usize) -> Span
 // The part after one.
 pub fn part_after(path: &[u8], p: Span) -> Span
     requires { p.start + p.len ≤ length path.now }
-    ensures { result ≡ nextPart path.now (p.start + p.len) }
+    ensures { result ≡ next_part path.now (p.start + p.len) }
 {
     next_part(path, p.start + p.len)
 }

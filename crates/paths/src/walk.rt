@@ -1,11 +1,11 @@
 // A path part after part (fs.rs, `lookup_path`).
 ghost use Rattle.std.specs.Prelude.{◌≡◌};
-ghost use Rattle.lists.specs.Told.{inodeFound};
-ghost use Rattle.paths.specs.Lookup.{entryChosen, entryIn, partInode, lookupPath};
+ghost use Rattle.lists.specs.Told.{inode_found};
+ghost use Rattle.paths.specs.Lookup.{entry_chosen, entry_in, part_inode, lookup_path};
 
 use crate::choose::{none_yet, settle, weigh};
 use crate::split::{next_part, part_after};
-use bytes::part;
+use byte_fields::part;
 use cursor::{first, next};
 use error::Refusal;
 use inode_record::InodeRead;
@@ -32,7 +32,7 @@ fn chosen(entry: EntryRead, nodes: u64) -> EntryChosen
 
 // The entry of a directory that a part names. The whole list is read, so that a fault behind the entry counts.
 fn entry_named(image: &[u8], v: Volume, id: u64, part: &[u8], nodes: u64) -> EntryChosen
-    ensures { entryChosen result ≡ entryIn image.now v id part.now nodes }
+    ensures { entry_chosen result ≡ entry_in image.now v id part.now nodes }
 {
     let q = search(v, id, 9);
     let keys = q.keys;
@@ -61,7 +61,7 @@ fn entry_named(image: &[u8], v: Volume, id: u64, part: &[u8], nodes: u64) -> Ent
 
 // The inode that a part leads to from the directory of an id.
 fn enter(image: &[u8], v: Volume, id: u64, part: &[u8], nodes: u64) -> InodeFound
-    ensures { inodeFound result ≡ partInode image.now v part.now id nodes }
+    ensures { inode_found result ≡ part_inode image.now v part.now id nodes }
 {
     let found = entry_named(image, v, id, part, nodes);
     let entry = found.entry;
@@ -76,7 +76,7 @@ fn enter(image: &[u8], v: Volume, id: u64, part: &[u8], nodes: u64) -> InodeFoun
 
 // The inode that a path leads to from the root.
 pub fn lookup_path(image: &[u8], v: Volume, path: &[u8], nodes: u64) -> InodeFound
-    ensures { inodeFound result ≡ lookupPath image.now v path.now nodes }
+    ensures { inode_found result ≡ lookup_path image.now v path.now nodes }
 {
     if !is_utf8(path) {
         return InodeFound {

@@ -1,10 +1,10 @@
 // The bytes of an attribute, by place.
 ghost use Rattle.std.specs.Prelude.{◌≡◌};
-ghost use Rattle.links.specs.Link.{contentsOf};
-ghost use Rattle.calls.specs.Filled.{calledBy, answered};
-ghost use Rattle.reads.specs.Reads.{xattrOn, xattrCounted};
+ghost use Rattle.links.specs.Link.{contents_of};
+ghost use Rattle.calls.specs.Filled.{called_by, answered};
+ghost use Rattle.reads.specs.Reads.{xattr_on, xattr_counted};
 
-use bytes::Number;
+use byte_fields::Number;
 use calls::Progress;
 use links::read_xattr;
 use lists::{AttributeAt, attribute_at};
@@ -13,7 +13,7 @@ use text::Position;
 use volume::{Volume, VolumeOpening, Which, open_at};
 
 fn xattr_of(image: &[u8], v: Volume, a: Attribute, nodes: u64, out: &mut [u8]) -> Progress
-    ensures { calledBy result out.new ≡ answered (contentsOf image.now v a nodes) out.old }
+    ensures { called_by result out.new ≡ answered (contents_of image.now v a nodes) out.old }
 {
     let done = read_xattr(image, v, a, out, nodes);
     let count = done.count;
@@ -30,7 +30,7 @@ fn xattr_of(image: &[u8], v: Volume, a: Attribute, nodes: u64, out: &mut [u8]) -
 }
 
 fn xattr_on(image: &[u8], v: Volume, id: u64, place: u64, nodes: u64, out: &mut [u8]) -> Progress
-    ensures { calledBy result out.new ≡ answered (xattrOn image.now v id place nodes) out.old }
+    ensures { called_by result out.new ≡ answered (xattr_on image.now v id place nodes) out.old }
 {
     let found = attribute_at(image, v, id, place, nodes);
     let attribute = found.attribute;
@@ -48,7 +48,7 @@ fn xattr_on(image: &[u8], v: Volume, id: u64, place: u64, nodes: u64, out: &mut 
 }
 
 pub fn xattr_bytes(image: &[u8], which: Which, id: u64, place: u64, out: &mut [u8]) -> Progress
-    ensures { calledBy result out.new ≡ answered (xattrCounted image.now which id place) out.old }
+    ensures { called_by result out.new ≡ answered (xattr_counted image.now which id place) out.old }
 {
     let opened = open_at(image, which);
     let volume = opened.volume;

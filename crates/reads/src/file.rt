@@ -1,10 +1,10 @@
 // The bytes of a file from an offset on.
 ghost use Rattle.std.specs.Prelude.{◌≡◌, length};
-ghost use Rattle.files.specs.File.{readFile};
-ghost use Rattle.calls.specs.Filled.{calledBy, answered};
-ghost use Rattle.reads.specs.Reads.{read_on, readCounted};
+ghost use Rattle.files.specs.File.{read_file};
+ghost use Rattle.calls.specs.Filled.{called_by, answered};
+ghost use Rattle.reads.specs.Reads.{read_on, read_counted};
 
-use bytes::Number;
+use byte_fields::Number;
 use calls::Progress;
 use files::read_at;
 use inode_record::{Inode, InodeRead};
@@ -13,7 +13,7 @@ use text::Position;
 use volume::{Volume, VolumeOpening, Which, open_at};
 
 fn read_of(image: &[u8], v: Volume, i: Inode, offset: u64, nodes: u64, out: &mut [u8]) -> Progress
-    ensures { calledBy result out.new ≡ answered (readFile image.now v i offset (length out.old) nodes) out.old }
+    ensures { called_by result out.new ≡ answered (read_file image.now v i offset (length out.old) nodes) out.old }
 {
     let done = read_at(image, v, i, offset, out, nodes);
     let count = done.count;
@@ -30,7 +30,7 @@ fn read_of(image: &[u8], v: Volume, i: Inode, offset: u64, nodes: u64, out: &mut
 }
 
 fn read_on(image: &[u8], v: Volume, id: u64, offset: u64, nodes: u64, out: &mut [u8]) -> Progress
-    ensures { calledBy result out.new ≡ answered (read_on image.now v id offset (length out.old) nodes) out.old }
+    ensures { called_by result out.new ≡ answered (read_on image.now v id offset (length out.old) nodes) out.old }
 {
     let found = inode(image, v, id, nodes);
     let read = found.inode;
@@ -44,7 +44,7 @@ fn read_on(image: &[u8], v: Volume, id: u64, offset: u64, nodes: u64, out: &mut 
 }
 
 pub fn read_text(image: &[u8], which: Which, id: u64, offset: u64, out: &mut [u8]) -> Progress
-    ensures { calledBy result out.new ≡ answered (readCounted image.now which id offset (length out.old)) out.old }
+    ensures { called_by result out.new ≡ answered (read_counted image.now which id offset (length out.old)) out.old }
 {
     let opened = open_at(image, which);
     let volume = opened.volume;

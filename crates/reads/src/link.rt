@@ -1,10 +1,10 @@
 // The text of a symbolic link.
 ghost use Rattle.std.specs.Prelude.{◌≡◌};
 ghost use Rattle.links.specs.Link.{link_of};
-ghost use Rattle.calls.specs.Filled.{calledBy, answered};
-ghost use Rattle.reads.specs.Reads.{linkOn, linkCounted};
+ghost use Rattle.calls.specs.Filled.{called_by, answered};
+ghost use Rattle.reads.specs.Reads.{link_on, link_counted};
 
-use bytes::Number;
+use byte_fields::Number;
 use calls::Progress;
 use inode_record::{Inode, InodeRead};
 use links::read_link;
@@ -13,7 +13,7 @@ use text::Position;
 use volume::{Volume, VolumeOpening, Which, open_at};
 
 fn link_of(image: &[u8], v: Volume, i: Inode, nodes: u64, out: &mut [u8]) -> Progress
-    ensures { calledBy result out.new ≡ answered (link_of image.now v i nodes) out.old }
+    ensures { called_by result out.new ≡ answered (link_of image.now v i nodes) out.old }
 {
     let done = read_link(image, v, i, out, nodes);
     let count = done.count;
@@ -30,7 +30,7 @@ fn link_of(image: &[u8], v: Volume, i: Inode, nodes: u64, out: &mut [u8]) -> Pro
 }
 
 fn link_on(image: &[u8], v: Volume, id: u64, nodes: u64, out: &mut [u8]) -> Progress
-    ensures { calledBy result out.new ≡ answered (linkOn image.now v id nodes) out.old }
+    ensures { called_by result out.new ≡ answered (link_on image.now v id nodes) out.old }
 {
     let found = inode(image, v, id, nodes);
     let read = found.inode;
@@ -44,7 +44,7 @@ fn link_on(image: &[u8], v: Volume, id: u64, nodes: u64, out: &mut [u8]) -> Prog
 }
 
 pub fn link_text(image: &[u8], which: Which, id: u64, out: &mut [u8]) -> Progress
-    ensures { calledBy result out.new ≡ answered (linkCounted image.now which id) out.old }
+    ensures { called_by result out.new ≡ answered (link_counted image.now which id) out.old }
 {
     let opened = open_at(image, which);
     let volume = opened.volume;

@@ -1,8 +1,8 @@
 // An extended attribute (`j_xattr_key_t` and `j_xattr_val_t`).
 ghost use Rattle.std.specs.Prelude.{◌≡◌};
-ghost use Rattle.records.specs.Attribute.{attributeTold, dataTold, streamIn, dataIn, withName, attributeValue, attributeOf, attributeName, attributeBytes};
+ghost use Rattle.records.specs.Attribute.{attribute_told, data_told, stream_in, data_in, with_name, attribute_value, attribute_of, attribute_name, attribute_bytes};
 
-use bytes::{Number, Sliced, Span, part, slice_at, u16_at, u64_at};
+use byte_fields::{Number, Sliced, Span, part, slice_at, u16_at, u64_at};
 use error::Refusal;
 use names::{Name, name_bytes, name_of};
 use node::{Place, key_in, key_of, value_in, value_of};
@@ -44,7 +44,7 @@ pub enum AttributeRead {
 }
 
 fn stream_in(b: &[u8]) -> DataRead
-    ensures { dataTold result ≡ streamIn b.now }
+    ensures { data_told result ≡ stream_in b.now }
 {
     let object = match u64_at(b, 0) {
         Number::Got(x) => x,
@@ -62,7 +62,7 @@ fn stream_in(b: &[u8]) -> DataRead
 
 // Where the contents lie.
 fn data_in(value: &[u8], flags: u64) -> DataRead
-    ensures { dataTold result ≡ dataIn value.now flags }
+    ensures { data_told result ≡ data_in value.now flags }
 {
     let len = match u16_at(value, 2) {
         Number::Got(x) => x,
@@ -86,7 +86,7 @@ fn with_name(
     flags: u16,
     contents: AttributeData,
 ) -> AttributeRead
-    ensures { attributeTold result ≡ withName place key.now len flags contents }
+    ensures { attribute_told result ≡ with_name place key.now len flags contents }
 {
     match slice_at(key, 10, len as usize) {
         Sliced::Got(s) => AttributeRead::Got(Attribute {
@@ -100,7 +100,7 @@ fn with_name(
 }
 
 fn attribute_in(place: Place, key: &[u8], value: &[u8]) -> AttributeRead
-    ensures { attributeTold result ≡ attributeValue place key.now value.now }
+    ensures { attribute_told result ≡ attribute_value place key.now value.now }
 {
     let len = match u16_at(key, 8) {
         Number::Got(x) => x,
@@ -118,14 +118,14 @@ fn attribute_in(place: Place, key: &[u8], value: &[u8]) -> AttributeRead
 
 // The attribute of a record in the block b.
 pub fn attribute_of(b: &[u8], place: Place) -> AttributeRead
-    ensures { attributeTold result ≡ attributeOf b.now place }
+    ensures { attribute_told result ≡ attribute_of b.now place }
 {
     attribute_in(place, key_in(b, place), value_in(b, place))
 }
 
 // The bytes of an attribute's name.
 pub fn attribute_name(reader: Reader, image: &[u8], a: Attribute) -> &[u8]
-    ensures { result.now ≡ attributeName reader image.now a }
+    ensures { result.now ≡ attribute_name reader image.now a }
 {
     let place = a.place;
     let name = a.name;
@@ -134,7 +134,7 @@ pub fn attribute_name(reader: Reader, image: &[u8], a: Attribute) -> &[u8]
 
 // The bytes of a part of an attribute's value.
 pub fn attribute_bytes(reader: Reader, image: &[u8], place: Place, span: Span) -> &[u8]
-    ensures { result.now ≡ attributeBytes reader image.now place span }
+    ensures { result.now ≡ attribute_bytes reader image.now place span }
 {
     part(value_of(reader, image, place), span)
 }

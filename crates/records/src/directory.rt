@@ -1,9 +1,9 @@
 // A directory entry (`j_drec_key_t` or `j_drec_hashed_key_t`, and `j_drec_val_t`).
 ghost use Rattle.std.specs.Prelude.{◌≡◌, ◌+◌};
-ghost use Rattle.bytes.specs.Part.{sliced};
-ghost use Rattle.records.specs.Directory.{entryTold, hashedName, plainName, nameIn, entryValue, entry_of, entryName, entryReading};
+ghost use Rattle.byte_fields.specs.Part.{sliced};
+ghost use Rattle.records.specs.Directory.{entry_told, hashed_name, plain_name, name_in, entry_value, entry_of, entry_name, entry_reading};
 
-use bytes::{Number, Sliced, Span, cstr, part, u16_at, u32_at, u64_at};
+use byte_fields::{Number, Sliced, Span, cstr, part, u16_at, u32_at, u64_at};
 use error::Refusal;
 use names::name_of;
 use node::{Place, key_in, key_of};
@@ -34,7 +34,7 @@ fn plain_length(n: u16) -> u64
 
 // The name of a key that holds a hash: the count of its bytes is in the low 10 bits.
 fn hashed_name(key: &[u8]) -> Sliced
-    ensures { sliced result ≡ hashedName key.now }
+    ensures { sliced result ≡ hashed_name key.now }
 {
     let len = match u32_at(key, 8) {
         Number::Got(x) => x % 1024,
@@ -50,7 +50,7 @@ fn hashed_name(key: &[u8]) -> Sliced
 }
 
 fn plain_name(key: &[u8]) -> Sliced
-    ensures { sliced result ≡ plainName key.now }
+    ensures { sliced result ≡ plain_name key.now }
 {
     let len = match u16_at(key, 8) {
         Number::Got(x) => x,
@@ -67,7 +67,7 @@ fn plain_name(key: &[u8]) -> Sliced
 
 // Where the name lies: which form the key has, its volume says.
 fn name_in(key: &[u8], hashed: bool) -> Sliced
-    ensures { sliced result ≡ nameIn hashed key.now }
+    ensures { sliced result ≡ name_in hashed key.now }
 {
     if hashed {
         return hashed_name(key);
@@ -76,7 +76,7 @@ fn name_in(key: &[u8], hashed: bool) -> Sliced
 }
 
 fn value_in(place: Place, name: Span, value: &[u8]) -> EntryRead
-    ensures { entryTold result ≡ entryValue place name value.now }
+    ensures { entry_told result ≡ entry_value place name value.now }
 {
     let id = match u64_at(value, 0) {
         Number::Got(x) => x,
@@ -101,7 +101,7 @@ fn value_in(place: Place, name: Span, value: &[u8]) -> EntryRead
 
 // The entry of a record in the block b.
 pub fn entry_of(b: &[u8], place: Place, hashed: bool) -> EntryRead
-    ensures { entryTold result ≡ entry_of hashed b.now place }
+    ensures { entry_told result ≡ entry_of hashed b.now place }
 {
     match name_in(key_in(b, place), hashed) {
         Sliced::Got(name) => value_in(place, name, node::value_in(b, place)),
@@ -111,7 +111,7 @@ pub fn entry_of(b: &[u8], place: Place, hashed: bool) -> EntryRead
 
 // The bytes of an entry's name, up to the first zero byte.
 pub fn entry_name(reader: Reader, image: &[u8], e: Entry) -> &[u8]
-    ensures { result.now ≡ entryName reader image.now e }
+    ensures { result.now ≡ entry_name reader image.now e }
 {
     let place = e.place;
     let name = e.name;
@@ -121,7 +121,7 @@ pub fn entry_name(reader: Reader, image: &[u8], e: Entry) -> &[u8]
 // How many parts of its name the lossy reading replaces: counted when it is asked, since most entries that are read are passed
 // over.
 pub fn entry_replaced(reader: Reader, image: &[u8], e: Entry) -> u64
-    ensures { result ≡ (entryReading reader image.now e).replaced }
+    ensures { result ≡ (entry_reading reader image.now e).replaced }
 {
     let place = e.place;
     let name = e.name;

@@ -1,8 +1,8 @@
 // A file extent (`j_file_extent_key_t` and `j_file_extent_val_t`).
 ghost use Rattle.std.specs.Prelude.{◌≡◌};
-ghost use Rattle.records.specs.Extent.{extentTold, extentIn, extentOf};
+ghost use Rattle.records.specs.Extent.{extent_told, extent_in, extent_of};
 
-use bytes::{Number, u64_at};
+use byte_fields::{Number, u64_at};
 use error::Refusal;
 use node::{Place, key_in, value_in};
 
@@ -21,7 +21,7 @@ pub enum ExtentRead {
 }
 
 fn extent_in(key: &[u8], value: &[u8]) -> ExtentRead
-    ensures { extentTold result ≡ extentIn key.now value.now }
+    ensures { extent_told result ≡ extent_in key.now value.now }
 {
     let logical = match u64_at(key, 8) {
         Number::Got(x) => x,
@@ -44,7 +44,7 @@ fn extent_in(key: &[u8], value: &[u8]) -> ExtentRead
 
 // The extent of a record in the block b.
 pub fn extent_of(b: &[u8], place: Place) -> ExtentRead
-    ensures { extentTold result ≡ extentOf b.now place }
+    ensures { extent_told result ≡ extent_of b.now place }
 {
     extent_in(key_in(b, place), value_in(b, place))
 }

@@ -1,10 +1,10 @@
 // The line of each kind of name.
 ghost use Rattle.std.specs.Prelude.{◌≡◌};
-ghost use Rattle.calls.specs.Filled.{filledAt, filled, calledBy, answered};
-ghost use Rattle.replaced_line.specs.Line.{nameLine, inodeOn, entryOn, attributeOn, targetOn, linkOn};
+ghost use Rattle.calls.specs.Filled.{filled_at, filled, called_by, answered};
+ghost use Rattle.replaced_line.specs.Line.{name_line, inode_on, entry_on, attribute_on, target_on, link_on};
 
 use crate::line::show;
-use bytes::Number;
+use byte_fields::Number;
 use calls::Progress;
 use inode_record::{Inode, InodeRead, NameField};
 use links::link_replaced;
@@ -14,7 +14,7 @@ use text::Position;
 use volume::Volume;
 
 fn name_line(name: NameField, out: &mut [u8]) -> Position
-    ensures { filledAt result out.new ≡ filled (nameLine name) out.old }
+    ensures { filled_at result out.new ≡ filled (name_line name) out.old }
 {
     match name {
         NameField::Absent => Position::At(0),
@@ -23,7 +23,7 @@ fn name_line(name: NameField, out: &mut [u8]) -> Position
 }
 
 pub fn inode_on(image: &[u8], v: Volume, id: u64, nodes: u64, out: &mut [u8]) -> Progress
-    ensures { calledBy result out.new ≡ answered (inodeOn image.now v id nodes) out.old }
+    ensures { called_by result out.new ≡ answered (inode_on image.now v id nodes) out.old }
 {
     let found = inode(image, v, id, nodes);
     let read = found.inode;
@@ -51,7 +51,7 @@ pub fn entry_on(
     nodes: u64,
     out: &mut [u8],
 ) -> Progress
-    ensures { calledBy result out.new ≡ answered (entryOn image.now v id place nodes) out.old }
+    ensures { called_by result out.new ≡ answered (entry_on image.now v id place nodes) out.old }
 {
     let found = entry_at(image, v, id, place, nodes);
     let reader = v.reader;
@@ -80,7 +80,7 @@ pub fn attribute_on(
     nodes: u64,
     out: &mut [u8],
 ) -> Progress
-    ensures { calledBy result out.new ≡ answered (attributeOn image.now v id place nodes) out.old }
+    ensures { called_by result out.new ≡ answered (attribute_on image.now v id place nodes) out.old }
 {
     let found = attribute_at(image, v, id, place, nodes);
     let attribute = found.attribute;
@@ -104,7 +104,7 @@ pub fn attribute_on(
 }
 
 fn target_on(image: &[u8], v: Volume, i: Inode, nodes: u64, out: &mut [u8]) -> Progress
-    ensures { calledBy result out.new ≡ answered (targetOn image.now v i nodes) out.old }
+    ensures { called_by result out.new ≡ answered (target_on image.now v i nodes) out.old }
 {
     let done = link_replaced(image, v, i, nodes);
     let count = done.count;
@@ -121,7 +121,7 @@ fn target_on(image: &[u8], v: Volume, i: Inode, nodes: u64, out: &mut [u8]) -> P
 }
 
 pub fn link_on(image: &[u8], v: Volume, id: u64, nodes: u64, out: &mut [u8]) -> Progress
-    ensures { calledBy result out.new ≡ answered (linkOn image.now v id nodes) out.old }
+    ensures { called_by result out.new ≡ answered (link_on image.now v id nodes) out.old }
 {
     let found = inode(image, v, id, nodes);
     let read = found.inode;

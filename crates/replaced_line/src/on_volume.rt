@@ -1,7 +1,7 @@
 // The line of a name of a volume, by its kind.
 ghost use Rattle.std.specs.Prelude.{◌≡◌};
-ghost use Rattle.calls.specs.Filled.{calledBy, answered};
-ghost use Rattle.replaced_line.specs.Line.{replacedOn, replacedCounted};
+ghost use Rattle.calls.specs.Filled.{called_by, answered};
+ghost use Rattle.replaced_line.specs.Line.{replaced_on, replaced_counted};
 
 use crate::kinds::{attribute_on, entry_on, inode_on, link_on};
 use crate::line::show;
@@ -20,7 +20,7 @@ fn replaced_on(
     nodes: u64,
     out: &mut [u8],
 ) -> Progress
-    ensures { calledBy result out.new ≡ answered (replacedOn image.now v kind id place nodes) out.old }
+    ensures { called_by result out.new ≡ answered (replaced_on image.now v kind id place nodes) out.old }
 {
     if kind == 0 {
         return Progress {
@@ -54,7 +54,7 @@ pub fn replaced_text(
     place: u64,
     out: &mut [u8],
 ) -> Progress
-    ensures { calledBy result out.new ≡ answered (replacedCounted image.now which kind id place) out.old }
+    ensures { called_by result out.new ≡ answered (replaced_counted image.now which kind id place) out.old }
 {
     let opened = open_at(image, which);
     let volume = opened.volume;

@@ -2,7 +2,7 @@
 //
 // A record is its op (1 byte), a, b and the expected answer (8 bytes each), the input's length (4), the input; numbers are
 // little-endian. Op 0 ends the file.
-use bytes::Number;
+use byte_fields::Number;
 
 const HEAD: usize = 29;
 
@@ -56,16 +56,16 @@ fn record_at(file: &[u8], at: usize) -> Step {
     if file.len() - at < HEAD {
         return Step::Broken;
     }
-    let len = value(bytes::u32_at(file, at + 25)) as usize;
+    let len = value(byte_fields::u32_at(file, at + 25)) as usize;
     let start = at + HEAD;
     if file.len() - start < len {
         return Step::Broken;
     }
     Step::Record(Record {
         op: op,
-        a: value(bytes::u64_at(file, at + 1)),
-        b: value(bytes::u64_at(file, at + 9)),
-        expected: value(bytes::u64_at(file, at + 17)),
+        a: value(byte_fields::u64_at(file, at + 1)),
+        b: value(byte_fields::u64_at(file, at + 9)),
+        expected: value(byte_fields::u64_at(file, at + 17)),
         start: start,
         end: start + len,
     })

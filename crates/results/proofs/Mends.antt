@@ -9,20 +9,20 @@ use lib.ListN.{length}
 use mir.Syntax.{w64}
 use mir.Val.{to_z, of_z}
 use Rattle.text.specs.declared.Position.{Position}
-use Rattle.calls.specs.Filled.{filledAt}
-use Rattle.wrong_word.specs.Mends.{Mend, listed, mendsIn}
+use Rattle.calls.specs.Filled.{filled_at}
+use Rattle.wrong_word.specs.Mends.{Mend, listed, mends_in}
 use Rattle.results.specs.Call.{number, result_at, Within}
-use Rattle.results.proofs.Entries.{entries-within, counted-result, counted-buffer}
+use Rattle.results.proofs.Entries.{entries_within, counted_result, counted_buffer}
 
-module _ (ms : List Mend) (b x : List ℕ) (r : Position) (p : filledAt r x ≡ mendsIn ms b) (s : length b * 1 < 2 ^ 63) where
-  pub mends-within : Within r
-  unfolding mendsIn
-  mends-within = entries-within 12 (length ms) (listed ms) b x r (omega arith) s p
+module _ (ms : List Mend) (b x : List ℕ) (r : Position) (p : filled_at r x ≡ mends_in ms b) (s : length b * 1 < 2 ^ 63) where
+  pub mends_within : Within r
+  unfolding mends_in
+  mends_within = entries_within 12 (length ms) (listed ms) b x r (omega arith) s p
 
-  pub mends-result : (z : ℤ) → z ≡ result_at r → to_z w64 (of_z w64 z) ≡ number (mendsIn ms b).answer
-  mends-result z e = counted-result (mendsIn ms b) x r p mends-within z e
+  pub mends_result : (z : ℤ) → z ≡ result_at r → to_z w64 (of_z w64 z) ≡ number (mends_in ms b).answer
+  mends_result z e = counted_result (mends_in ms b) x r p mends_within z e
 
-  pub mends-buffer : x ≡ (mendsIn ms b).buffer
-  mends-buffer = counted-buffer (mendsIn ms b) x r p
+  pub mends_buffer : x ≡ (mends_in ms b).buffer
+  mends_buffer = counted_buffer (mends_in ms b) x r p
 
-pub ruleset mends = (rules, mends-within, mends-result, mends-buffer)
+pub ruleset mends = (rules, mends_within, mends_result, mends_buffer)

@@ -11,26 +11,26 @@ use mir.Val.{to_z, of_z}
 use Rattle.error.specs.Answer.{Answer, got, no}
 use Rattle.text.specs.declared.Position.{Position}
 use Rattle.text.specs.declared.Position.TheVariants.{At, No}
-use Rattle.calls.specs.Filled.{Filled, filledAt}
-use Rattle.xid_list.specs.Listed.{bytes_of, xidsIn, xidsBy}
+use Rattle.calls.specs.Filled.{Filled, filled_at}
+use Rattle.xid_list.specs.Listed.{bytes_of, xids_in, xids_by}
 use Rattle.results.specs.Call.{number, result_at, Within}
-use Rattle.results.proofs.Results.{refused-is}
-use Rattle.results.proofs.Entries.{entries-within, counted-result, counted-buffer}
+use Rattle.results.proofs.Results.{refused_is}
+use Rattle.results.proofs.Entries.{entries_within, counted_result, counted_buffer}
 
-module _ (a : Answer (List ℕ)) (b x : List ℕ) (r : Position) (p : filledAt r x ≡ xidsBy a b) (s : length b * 1 < 2 ^ 63) where
-  pub xids-within : Within r
-  unfolding xidsIn
-  xids-within = of a r p
+module _ (a : Answer (List ℕ)) (b x : List ℕ) (r : Position) (p : filled_at r x ≡ xids_by a b) (s : length b * 1 < 2 ^ 63) where
+  pub xids_within : Within r
+  unfolding xids_in
+  xids_within = of a r p
     where
-      of : (a : Answer (List ℕ)) (r : Position) → filledAt r x ≡ xidsBy a b → Within r
-      of (got l) r q = entries-within 8 (length l) (bytes_of l) b x r (omega arith) s q
+      of : (a : Answer (List ℕ)) (r : Position) → filled_at r x ≡ xids_by a b → Within r
+      of (got l) r q = entries_within 8 (length l) (bytes_of l) b x r (omega arith) s q
       of (no w) (At n) q = absurd (let z : ◌≡◌ {A = ℕ} 0 1 = cc (ap (λ (m : Filled). m.answer) q) in omega arith)
       of (no w) (No e) q = tt
 
-  pub xids-result : (z : ℤ) → z ≡ result_at r → to_z w64 (of_z w64 z) ≡ number (xidsBy a b).answer
-  xids-result z e = counted-result (xidsBy a b) x r p xids-within z e
+  pub xids_result : (z : ℤ) → z ≡ result_at r → to_z w64 (of_z w64 z) ≡ number (xids_by a b).answer
+  xids_result z e = counted_result (xids_by a b) x r p xids_within z e
 
-  pub xids-buffer : x ≡ (xidsBy a b).buffer
-  xids-buffer = counted-buffer (xidsBy a b) x r p
+  pub xids_buffer : x ≡ (xids_by a b).buffer
+  xids_buffer = counted_buffer (xids_by a b) x r p
 
-pub ruleset xids = (rules, refused-is, xids-within, xids-result, xids-buffer)
+pub ruleset xids = (rules, refused_is, xids_within, xids_result, xids_buffer)

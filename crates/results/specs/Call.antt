@@ -4,7 +4,7 @@ use Rattle.std.specs.Prelude.{ℕ, ◌^◌, ◌<◌, List, ℤ, pos, ◌-ℤ◌}
 use Rattle.error.specs.Answer.{Answer, got, no, number_of}
 use Rattle.text.specs.declared.Position.{Position}
 use Rattle.text.specs.declared.Position.TheVariants.{At, No}
-use Rattle.calls.specs.Filled.{filledBy, positioned}
+use Rattle.calls.specs.Filled.{filled_by, positioned}
 
 -- the result is how many bytes were written, or minus the refusal's number
 abbrev pub minus : ℕ → ℤ
@@ -15,10 +15,10 @@ number (got n) = pos n
 number (no e) = minus (number_of e)
 
 abbrev pub result_of : Answer (List ℕ) → List ℕ → ℤ
-result_of a b = number (filledBy a b).answer
+result_of a b = number (filled_by a b).answer
 
-abbrev pub bufferOf : Answer (List ℕ) → List ℕ → List ℕ
-bufferOf a b = (filledBy a b).buffer
+abbrev pub buffer_of : Answer (List ℕ) → List ℕ → List ℕ
+buffer_of a b = (filled_by a b).buffer
 
 abbrev pub result_at : Position → ℤ
 result_at p = number (positioned p)

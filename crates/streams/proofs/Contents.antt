@@ -6,73 +6,73 @@ use mathlib.Core.Logic.{◌⊎◌, inl, inr}
 use native.Mathlib.Omega.{arith}
 use lib.ListN.{replicate}
 use Rattle.error.specs.Answer.{Answer, got, no}
-use Rattle.error.proofs.Laws.{at-most, above}
+use Rattle.error.proofs.Laws.{at_most_lem, above}
 use Rattle.lookup.specs.Counted.{Counted, after, from, onto}
-use Rattle.btree.specs.Scan.{Run, more, end, refused, scanOf}
+use Rattle.btree.specs.Scan.{Run, more, end, refused, scan_of}
 use Rattle.node.specs.declared.place.Place.{Place}
 use Rattle.volume.specs.declared.Volume.{Volume}
-use Rattle.records.specs.Extent.{extentAt}
+use Rattle.records.specs.Extent.{extent_at}
 use Rattle.records.specs.declared.extent.Extent.{Extent}
-use Rattle.lists.specs.Lists.{searchOf, list_of, extentsOf}
+use Rattle.lists.specs.Lists.{search_of, list_of, extents_of}
 use Rattle.extents.specs.Verdict.{Verdict, ◌>>◌}
-use Rattle.extents.specs.Extents.{Disk, diskOf}
+use Rattle.extents.specs.Extents.{Disk, disk_of}
 use Rattle.streams.specs.Stream.{stream}
-use Rattle.streams.specs.Inner.{settle, taken, poured, wantedOf, nextPos, stepBytes, bytesThen, runBytes, streamBytes, settledBy}
-use Rattle.extents.proofs.Verdicts.{le-or-gt}
-use Rattle.streams.proofs.StreamLaws.{stream-two}
-use Rattle.streams.specs.Streams.{streamOf, settled_of}
-use Rattle.streams.proofs.Laws.{pos-stays, pos_next, settled_is}
+use Rattle.streams.specs.Inner.{settle, taken, poured, wanted_of, next_pos, step_bytes, bytes_then, run_bytes, stream_bytes, settled_by}
+use Rattle.extents.proofs.Verdicts.{le_or_gt}
+use Rattle.streams.proofs.StreamLaws.{stream_two}
+use Rattle.streams.specs.Streams.{stream_of, settled_of}
+use Rattle.streams.proofs.Laws.{pos_stays, pos_next, settled_is}
 
-poured-past : (d : Disk) (size pos : ℕ) (es : List Extent) → size ≤ pos → poured d size pos es ≡ []
+poured_past : (d : Disk) (size pos : ℕ) (es : List Extent) → size ≤ pos → poured d size pos es ≡ []
 unfolding poured
-poured-past d size pos [] h = let q : size - pos ≡ 0 = omega arith in rw q
-poured-past d size pos (e ∷ es) h = sym (at-most _ _ _ _ _ h refl)
+poured_past d size pos [] h = let q : size - pos ≡ 0 = omega arith in rw q
+poured_past d size pos (e ∷ es) h = sym (at_most_lem _ _ _ _ _ h refl)
 
 -- an extent's bytes, and those after it
-poured-cons : (d : Disk) (size pos : ℕ) (e : Extent) (es : List Extent) → poured d size pos (e ∷ es) ≡ stepBytes d size pos e ++ poured d size (nextPos size pos e) es
-unfolding poured stepBytes wantedOf
-poured-cons d size pos e es = of (le-or-gt size pos)
+poured_cons : (d : Disk) (size pos : ℕ) (e : Extent) (es : List Extent) → poured d size pos (e ∷ es) ≡ step_bytes d size pos e ++ poured d size (next_pos size pos e) es
+unfolding poured step_bytes wanted_of
+poured_cons d size pos e es = of (le_or_gt size pos)
   where
-    of : (size ≤ pos) ⊎ (pos < size) → poured d size pos (e ∷ es) ≡ stepBytes d size pos e ++ poured d size (nextPos size pos e) es
+    of : (size ≤ pos) ⊎ (pos < size) → poured d size pos (e ∷ es) ≡ step_bytes d size pos e ++ poured d size (next_pos size pos e) es
     of (inl h) =
-        let s : stepBytes d size pos e ≡ [] = sym (at-most _ _ _ _ _ h refl) in
-        rw (s, ← pos-stays size pos e h, poured-past d size pos es h) (poured-past d size pos (e ∷ es) h)
+        let s : step_bytes d size pos e ≡ [] = sym (at_most_lem _ _ _ _ _ h refl) in
+        rw (s, ← pos_stays size pos e h, poured_past d size pos es h) (poured_past d size pos (e ∷ es) h)
     of (inr h) =
-        let s : stepBytes d size pos e ≡ replicate (min e.logical size - pos) 0 ++ taken d e (wantedOf size e) = sym (above _ _ _ _ _ h refl) in
-        rw (s, ← pos_next size e (min e.logical size) refl (wantedOf size e) refl pos h, append_assoc)
+        let s : step_bytes d size pos e ≡ replicate (min e.logical size - pos) 0 ++ taken d e (wanted_of size e) = sym (above _ _ _ _ _ h refl) in
+        rw (s, ← pos_next size e (min e.logical size) refl (wanted_of size e) refl pos h, append_assoc)
         (sym (above _ _ _ _ _ h refl))
 
-more-poured : (d : Disk) (size pos : ℕ) (a : Answer Extent) (s n : ℕ) (c : Answer (List Extent)) (k : Extent → List ℕ) (es : List Extent)
-    → (from s a λ x. onto (after n c) λ xs t. after t (got (x ∷ xs))).answer ≡ got es → ((e : Extent) (xs : List Extent) → c ≡ got xs → k e ≡ poured d size (nextPos size pos e) xs)
-    → bytesThen a (λ e. stepBytes d size pos e ++ k e) ≡ poured d size pos es
-more-poured d size pos (got e) s n (got xs) k es h ih =
+more_poured : (d : Disk) (size pos : ℕ) (a : Answer Extent) (s n : ℕ) (c : Answer (List Extent)) (k : Extent → List ℕ) (es : List Extent)
+    → (from s a λ x. onto (after n c) λ xs t. after t (got (x ∷ xs))).answer ≡ got es → ((e : Extent) (xs : List Extent) → c ≡ got xs → k e ≡ poured d size (next_pos size pos e) xs)
+    → bytes_then a (λ e. step_bytes d size pos e ++ k e) ≡ poured d size pos es
+more_poured d size pos (got e) s n (got xs) k es h ih =
     let q : es ≡ e ∷ xs = cc in
-    rw (q, ih e xs refl) (sym (poured-cons d size pos e xs))
-more-poured d size pos (got e) s n (no w) k es h ih = absurd (let z : ◌≡◌ {A = ℕ} 0 1 = cc in omega arith)
-more-poured d size pos (no w) s n c k es h ih = absurd (let z : ◌≡◌ {A = ℕ} 0 1 = cc in omega arith)
+    rw (q, ih e xs refl) (sym (poured_cons d size pos e xs))
+more_poured d size pos (got e) s n (no w) k es h ih = absurd (let z : ◌≡◌ {A = ℕ} 0 1 = cc in omega arith)
+more_poured d size pos (no w) s n c k es h ih = absurd (let z : ◌≡◌ {A = ℕ} 0 1 = cc in omega arith)
 
 -- what a run's extents give is what their list gives
-pub run-poured : (f : Place → Answer Extent) (d : Disk) (size pos : ℕ) (r : Run) (es : List Extent) → (list_of f r).answer ≡ got es → runBytes f d size pos r ≡ poured d size pos es
-unfolding runBytes list_of poured
-run-poured f d size pos (end s) es h = let q : es ≡ [] = cc in rw q
-run-poured f d size pos (refused w s) es h = absurd (let z : ◌≡◌ {A = ℕ} 0 1 = cc in omega arith)
-run-poured f d size pos (more p s r) es h =
-    more-poured d size pos (f p) s (list_of f r).nodes (list_of f r).answer (λ e. runBytes f d size (nextPos size pos e) r) es h
-    (λ e xs k. run-poured f d size (nextPos size pos e) r xs k)
+pub run_poured : (f : Place → Answer Extent) (d : Disk) (size pos : ℕ) (r : Run) (es : List Extent) → (list_of f r).answer ≡ got es → run_bytes f d size pos r ≡ poured d size pos es
+unfolding run_bytes list_of poured
+run_poured f d size pos (end s) es h = let q : es ≡ [] = cc in rw q
+run_poured f d size pos (refused w s) es h = absurd (let z : ◌≡◌ {A = ℕ} 0 1 = cc in omega arith)
+run_poured f d size pos (more p s r) es h =
+    more_poured d size pos (f p) s (list_of f r).nodes (list_of f r).answer (λ e. run_bytes f d size (next_pos size pos e) r) es h
+    (λ e xs k. run_poured f d size (next_pos size pos e) r xs k)
 
-settled-as : (d : Disk) (size : ℕ) (n : ℕ) (c : Answer (List Extent)) (bs : List ℕ) → ((es : List Extent) → c ≡ got es → bs ≡ poured d size 0 es)
+settled_as : (d : Disk) (size : ℕ) (n : ℕ) (c : Answer (List Extent)) (bs : List ℕ) → ((es : List Extent) → c ≡ got es → bs ≡ poured d size 0 es)
     → (onto (after n c) λ es t. after t (stream d size es)) ≡ (onto (onto (after n c) λ es t. after t (settle d size 0 es)) λ u t. after t (got bs))
 unfolding stream
-settled-as d size n (got es) bs h = rw (stream-two d size 0 es, h es refl) (of (settle d size 0 es))
+settled_as d size n (got es) bs h = rw (stream_two d size 0 es, h es refl) (of (settle d size 0 es))
   where
     of : (v : Verdict) → ◌≡◌ {A = Counted (List ℕ)} (after n (v >> got (poured d size 0 es))) (onto (after n v) λ u t. after t (got (poured d size 0 es)))
     of (got u) = refl
     of (no w) = refl
-settled-as d size n (no w) bs h = refl
+settled_as d size n (no w) bs h = refl
 
-pub stream-settled : (b : List ℕ) (v : Volume) (object size s : ℕ) → streamOf b v object size s ≡ (onto (settled_of b v object size s) λ u t. after t (got (streamBytes b v object size s)))
-unfolding streamOf settledBy streamBytes extentsOf
-stream-settled b v object size s =
+pub stream_settled : (b : List ℕ) (v : Volume) (object size s : ℕ) → stream_of b v object size s ≡ (onto (settled_of b v object size s) λ u t. after t (got (stream_bytes b v object size s)))
+unfolding stream_of settled_by stream_bytes extents_of
+stream_settled b v object size s =
     rw (settled_is b v object size s)
-    (settled-as (diskOf v.reader b) size (list_of (extentAt v.reader b) (scanOf b (searchOf v object 8) s)).nodes (list_of (extentAt v.reader b) (scanOf b (searchOf v object 8) s)).answer _
-    (λ es h. run-poured (extentAt v.reader b) (diskOf v.reader b) size 0 (scanOf b (searchOf v object 8) s) es h))
+    (settled_as (disk_of v.reader b) size (list_of (extent_at v.reader b) (scan_of b (search_of v object 8) s)).nodes (list_of (extent_at v.reader b) (scan_of b (search_of v object 8) s)).answer _
+    (λ es h. run_poured (extent_at v.reader b) (disk_of v.reader b) size 0 (scan_of b (search_of v object 8) s) es h))

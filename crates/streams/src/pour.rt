@@ -1,15 +1,15 @@
 // The bytes of a stream in hexadecimal, an extent after the other.
 ghost use Rattle.std.specs.Prelude.{◌≡◌, [], ◌*◌, min, max, length, replicate};
-ghost use Rattle.text.specs.Output.{outputOf, puts};
+ghost use Rattle.text.specs.Output.{output_of, puts};
 ghost use Rattle.text.specs.Words.{pairs};
 ghost use Rattle.cursor.specs.Left.{run_at};
-ghost use Rattle.records.specs.Extent.{extentAt};
-ghost use Rattle.lists.specs.Lists.{searchOf};
-ghost use Rattle.extents.specs.Extents.{diskOf};
-ghost use Rattle.streams.specs.Inner.{taken, stepBytes, runBytes, streamBytes};
+ghost use Rattle.records.specs.Extent.{extent_at};
+ghost use Rattle.lists.specs.Lists.{search_of};
+ghost use Rattle.extents.specs.Extents.{disk_of};
+ghost use Rattle.streams.specs.Inner.{taken, step_bytes, run_bytes, stream_bytes};
 
 use crate::step::{less, next_pos, wanted};
-use bytes::{Span, part};
+use byte_fields::{Span, part};
 use cursor::{Step, first, next};
 use error::Refusal;
 use extents::{block_size, smaller};
@@ -21,7 +21,7 @@ use volume::Volume;
 
 // n zero bytes.
 fn write_zeros(out: &mut [u8], room: usize, p: Position, n: u64) -> Position
-    ensures { outputOf result out.new ≡ puts room (pairs (replicate n 0) []) (outputOf p out.old) }
+    ensures { output_of result out.new ≡ puts room (pairs (replicate n 0) []) (output_of p out.old) }
 {
     let mut q = p;
     let mut left = n;
@@ -40,7 +40,7 @@ fn write_zeros(out: &mut [u8], room: usize, p: Position, n: u64) -> Position
 // Zeros that pass the room are refused before one is written, and past the buffer's end none is: a size may lie far past
 // any buffer.
 fn put_zeros(out: &mut [u8], room: usize, p: Position, n: u64) -> Position
-    ensures { outputOf result out.new ≡ puts room (pairs (replicate n 0) []) (outputOf p out.old) }
+    ensures { output_of result out.new ≡ puts room (pairs (replicate n 0) []) (output_of p out.old) }
 {
     match p {
         Position::No(e) => Position::No(e),
@@ -83,7 +83,7 @@ fn put_taken(
     e: Extent,
     n: u64,
 ) -> Position
-    ensures { outputOf result out.new ≡ puts room (pairs (taken (diskOf reader image.now) e n) []) (outputOf p out.old) }
+    ensures { output_of result out.new ≡ puts room (pairs (taken (disk_of reader image.now) e n) []) (output_of p out.old) }
 {
     if e.phys_block == 0 {
         return put_zeros(out, room, p, n);
@@ -106,7 +106,7 @@ fn put_step(
     pos: u64,
     e: Extent,
 ) -> Position
-    ensures { outputOf result out.new ≡ puts room (pairs (stepBytes (diskOf reader image.now) size pos e) []) (outputOf p out.old) }
+    ensures { output_of result out.new ≡ puts room (pairs (step_bytes (disk_of reader image.now) size pos e) []) (output_of p out.old) }
 {
     if size <= pos {
         return p;
@@ -128,7 +128,7 @@ pub fn put_stream_from(
     size: u64,
     start: Step,
 ) -> Position
-    ensures { outputOf result out.new ≡ puts room (pairs (runBytes (extentAt v.reader image.now) (diskOf v.reader image.now) size 0 (run_at image.now (searchOf v object 8) start start.from)) []) (outputOf p out.old) }
+    ensures { output_of result out.new ≡ puts room (pairs (run_bytes (extent_at v.reader image.now) (disk_of v.reader image.now) size 0 (run_at image.now (search_of v object 8) start start.from)) []) (output_of p out.old) }
 {
     let q = search(v, object, 8);
     let keys = q.keys;
@@ -169,7 +169,7 @@ pub fn put_stream_hex(
     size: u64,
     nodes: u64,
 ) -> Position
-    ensures { outputOf result out.new ≡ puts room (pairs (streamBytes image.now v object size nodes) []) (outputOf p out.old) }
+    ensures { output_of result out.new ≡ puts room (pairs (stream_bytes image.now v object size nodes) []) (output_of p out.old) }
 {
     let start = first(image, search(v, object, 8), nodes);
     put_stream_from(out, room, p, image, v, object, size, start)

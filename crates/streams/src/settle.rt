@@ -1,9 +1,9 @@
 // Whether a stream can be read: no byte is written before all is decided.
 ghost use Rattle.std.specs.Prelude.{◌≡◌};
-ghost use Rattle.extents.specs.Extents.{diskOf};
+ghost use Rattle.extents.specs.Extents.{disk_of};
 ghost use Rattle.extents.specs.Ruling.{ruled};
-ghost use Rattle.streams.specs.Inner.{stepAfter};
-ghost use Rattle.streams.specs.Streams.{settledTold, settled_of};
+ghost use Rattle.streams.specs.Inner.{step_after};
+ghost use Rattle.streams.specs.Streams.{settled_told, settled_of};
 
 use crate::step::{next_pos, step_at};
 use cursor::{first, next};
@@ -38,7 +38,7 @@ fn step_after(
     pos: u64,
     e: Extent,
 ) -> Ruling
-    ensures { ruled result ≡ stepAfter (ruled ruling) (diskOf reader image.now) size pos e }
+    ensures { ruled result ≡ step_after (ruled ruling) (disk_of reader image.now) size pos e }
 {
     match ruling {
         Ruling::Fine => step_at(image, reader, size, pos, e),
@@ -48,7 +48,7 @@ fn step_after(
 
 // All extents of the stream are read before the first of them is judged.
 pub fn settle_stream(image: &[u8], v: Volume, object: u64, size: u64, nodes: u64) -> Settled
-    ensures { settledTold result ≡ settled_of image.now v object size nodes }
+    ensures { settled_told result ≡ settled_of image.now v object size nodes }
 {
     let q = search(v, object, 8);
     let keys = q.keys;

@@ -1,7 +1,7 @@
 // One extent of a stream.
 ghost use Rattle.std.specs.Prelude.{◌≡◌, ◌-◌, ◌≤◌};
-ghost use Rattle.extents.specs.Extents.{diskOf};
-ghost use Rattle.streams.specs.Inner.{ready, wantedOf, nextPos, stepVerdict};
+ghost use Rattle.extents.specs.Extents.{disk_of};
+ghost use Rattle.streams.specs.Inner.{ready, wanted_of, next_pos, step_verdict};
 ghost use Rattle.extents.specs.Ruling.{ruled};
 
 use error::Refusal;
@@ -11,14 +11,14 @@ use records::Extent;
 
 // How many of the extent's bytes belong to the stream.
 pub fn wanted(size: u64, e: Extent) -> u64
-    ensures { result ≡ wantedOf size e }
+    ensures { result ≡ wanted_of size e }
 {
     smaller(e.len, size - smaller(e.logical, size))
 }
 
 // Where the stream goes on after the extent.
 pub fn next_pos(size: u64, pos: u64, e: Extent) -> u64
-    ensures { result ≡ nextPos size pos e }
+    ensures { result ≡ next_pos size pos e }
 {
     if size <= pos {
         return pos;
@@ -29,7 +29,7 @@ pub fn next_pos(size: u64, pos: u64, e: Extent) -> u64
 // The first n bytes of the extent can be read; its end is tested also where none is wanted.
 fn ready_at(image: &[u8], reader: Reader, e: Extent, n: u64) -> Ruling
     requires { n ≤ e.len }
-    ensures { ruled result ≡ ready (diskOf reader image.now) e n }
+    ensures { ruled result ≡ ready (disk_of reader image.now) e n }
 {
     if e.phys_block == 0 {
         return Ruling::Fine;
@@ -52,7 +52,7 @@ fn ready_at(image: &[u8], reader: Reader, e: Extent, n: u64) -> Ruling
 
 // Whether the extent may follow what lies before pos.
 pub fn step_at(image: &[u8], reader: Reader, size: u64, pos: u64, e: Extent) -> Ruling
-    ensures { ruled result ≡ stepVerdict (diskOf reader image.now) size pos e }
+    ensures { ruled result ≡ step_verdict (disk_of reader image.now) size pos e }
 {
     if size <= pos {
         return Ruling::Fine;

@@ -11,77 +11,77 @@ use Rattle.error.specs.declared.Refusal.{Refusal}
 use Rattle.lookup.specs.Counted.{Counted}
 use Rattle.totals.specs.declared.Totals.{Totals}
 use Rattle.totals.specs.Totals.{counts}
-use Rattle.btree.specs.Scan.{scanOf}
+use Rattle.btree.specs.Scan.{scan_of}
 use Rattle.btree.specs.declared.entries.Search.{Search}
-use Rattle.cursor.specs.Left.{left, run_at, inStep, Begins}
+use Rattle.cursor.specs.Left.{left, run_at, in_step, Begins}
 use Rattle.cursor.specs.declared.steps.Step.{Step}
 use Rattle.volume.specs.declared.Volume.{Volume}
-use Rattle.volume.specs.Rule.{hashedKeys}
-use Rattle.inode_record.specs.Inode.{compressed, inodeTold}
+use Rattle.volume.specs.Rule.{hashed_keys}
+use Rattle.inode_record.specs.Inode.{compressed, inode_told}
 use Rattle.inode_record.specs.declared.inode.Inode.{Inode}
 use Rattle.inode_record.specs.declared.inode.InodeRead.{InodeRead}
-use Rattle.records.specs.Attribute.{attributeAt}
+use Rattle.records.specs.Attribute.{attribute_at}
 use Rattle.records.specs.Directory.{entry_at}
 use Rattle.records.specs.declared.attribute.Attribute.{Attribute}
 use Rattle.records.specs.declared.directory.Entry.{Entry}
-use Rattle.lists.specs.Lists.{searchOf, inodeOf}
+use Rattle.lists.specs.Lists.{search_of, inode_of}
 use Rattle.lists.specs.Inner.{readable}
-use Rattle.lists.specs.Seen.{Seen, over, passed, element, refusal, seenIn}
-use Rattle.lists.specs.Told.{inodeFound}
+use Rattle.lists.specs.Seen.{Seen, over, passed, element, refusal, seen_in}
+use Rattle.lists.specs.Told.{inode_found}
 use Rattle.lists.specs.declared.inodes.InodeFound.{InodeFound}
-use Rattle.lists.proofs.Reading.{less-at, less-passed, readable-over, readable-no, readable-at, readable-passed}
+use Rattle.lists.proofs.Reading.{less_at, less_passed, readable_over, readable_no, readable_at, readable_passed}
 use Rattle.lists.proofs.Turns.{seens}
 use Rattle.files.specs.File.{size_of}
 use Rattle.tally.specs.declared.counts.Tally.{Tally}
-use Rattle.tally.specs.Weight.{Weight, tallyTold, cap, capped, noWeight, beside, under, entered, shownSize, attributesOn, entriesOn, ownWeight, weighAll, weightBy, weight}
+use Rattle.tally.specs.Weight.{Weight, tally_told, cap, capped, no_weight, beside, under, entered, shown_size, attributes_on, entries_on, own_weight, weigh_all, weight_by, weight}
 
-pub entry-told : (t x r : Tally) (m : ℕ) → r.nodes ≡ cap (t.nodes + x.nodes) → r.bytes ≡ cap (t.bytes + x.bytes) → r.attrs ≡ cap (t.attrs + x.attrs) → m ≡ cap (x.below + 1)
-    → r.below ≡ max t.below m → tallyTold r ≡ entered (tallyTold t) (tallyTold x)
-entry-told t x r m a b c d e = λ i. record { totals = counts (a i) (b i) (c i); below = (e ∙ ap (max t.below) d) i }
+pub entry_told_lem : (t x r : Tally) (m : ℕ) → r.nodes ≡ cap (t.nodes + x.nodes) → r.bytes ≡ cap (t.bytes + x.bytes) → r.attrs ≡ cap (t.attrs + x.attrs) → m ≡ cap (x.below + 1)
+    → r.below ≡ max t.below m → tally_told r ≡ entered (tally_told t) (tally_told x)
+entry_told_lem t x r m a b c d e = λ i. record { totals = counts (a i) (b i) (c i); below = (e ∙ ap (max t.below) d) i }
 
 -- ---- attributes
 
-module _ (b : List ℕ) (q : Search) (s : Step) (i n whole : ℕ) (inv : cap (n + length (readable (attributeAt q.keys.reader b) (run_at b q s i))) ≡ whole) (k : n ≤ 2 ^ 64 - 1)
-    (x : Seen Attribute) (t : x ≡ seenIn (attributeAt q.keys.reader b) (inStep b q s.reached i)) where
-  none_left : readable (attributeAt q.keys.reader b) (run_at b q s i) ≡ [] → n ≡ whole
+module _ (b : List ℕ) (q : Search) (s : Step) (i n whole : ℕ) (inv : cap (n + length (readable (attribute_at q.keys.reader b) (run_at b q s i))) ≡ whole) (k : n ≤ 2 ^ 64 - 1)
+    (x : Seen Attribute) (t : x ≡ seen_in (attribute_at q.keys.reader b) (in_step b q s.reached i)) where
+  none_left : readable (attribute_at q.keys.reader b) (run_at b q s i) ≡ [] → n ≡ whole
   none_left e = omega (arith, rw e at inv)
 
-  pub count-over : x ≡ over → n ≡ whole
-  count-over e = none_left (readable-over (attributeAt q.keys.reader b) b q s i x t e)
+  pub count_over : x ≡ over → n ≡ whole
+  count_over e = none_left (readable_over (attribute_at q.keys.reader b) b q s i x t e)
 
   pub count_no : (z : Refusal) → x ≡ refusal z → n ≡ whole
-  count_no z e = none_left (readable-no (attributeAt q.keys.reader b) b q s i x t z e)
+  count_no z e = none_left (readable_no (attribute_at q.keys.reader b) b q s i x t z e)
 
-  pub count-passed : (m : Step) → x ≡ passed → Begins b q m (left b q s.path s.level s.nodes) → cap (n + length (readable (attributeAt q.keys.reader b) (run_at b q m m.from))) ≡ whole
-  count-passed m e h = rw (readable-passed (attributeAt q.keys.reader b) b q s i x t m e h) inv
+  pub count_passed : (m : Step) → x ≡ passed → Begins b q m (left b q s.path s.level s.nodes) → cap (n + length (readable (attribute_at q.keys.reader b) (run_at b q m m.from))) ≡ whole
+  count_passed m e h = rw (readable_passed (attribute_at q.keys.reader b) b q s i x t m e h) inv
 
-  pub count_next : (a : Attribute) (c m : ℕ) → x ≡ element a c → m ≡ cap (n + 1) → cap (m + length (readable (attributeAt q.keys.reader b) (run_at b q s c))) ≡ whole
-  count_next a c m e g = let l = rw (readable-at (attributeAt q.keys.reader b) b q s i x t a c e) at inv in omega arith
+  pub count_next : (a : Attribute) (c m : ℕ) → x ≡ element a c → m ≡ cap (n + 1) → cap (m + length (readable (attribute_at q.keys.reader b) (run_at b q s c))) ≡ whole
+  count_next a c m e g = let l = rw (readable_at (attribute_at q.keys.reader b) b q s i x t a c e) at inv in omega arith
 
 pub count_small : (n m : ℕ) → m ≡ cap n → m ≤ 2 ^ 64 - 1
 count_small n m e = omega arith
 
-pub count-done : (b : List ℕ) (v : Volume) (id n : ℕ) (q : Search) (s : Step) → q ≡ searchOf v id 4 → n ≡ cap (0 + length (readable (attributeAt q.keys.reader b) (run_at b q s s.from)))
-    → n ≡ cap (length (readable (attributeAt v.reader b) (run_at b (searchOf v id 4) s s.from)))
-count-done b v id n q s e h = omega (arith, rw e at h)
+pub count_done : (b : List ℕ) (v : Volume) (id n : ℕ) (q : Search) (s : Step) → q ≡ search_of v id 4 → n ≡ cap (0 + length (readable (attribute_at q.keys.reader b) (run_at b q s s.from)))
+    → n ≡ cap (length (readable (attribute_at v.reader b) (run_at b (search_of v id 4) s s.from)))
+count_done b v id n q s e h = omega (arith, rw e at h)
 
 -- ---- a node by itself
 
-pub size-packed : (i : Inode) → compressed i ≡ 1 → 0 ≡ shownSize i
-unfolding shownSize
-size-packed i e = same _ _ _ _ _ e refl
+pub size_packed : (i : Inode) → compressed i ≡ 1 → 0 ≡ shown_size i
+unfolding shown_size
+size_packed i e = same _ _ _ _ _ e refl
 
-pub size-plain : (i : Inode) (n : ℕ) → (compressed i ≡ 1 → ⊥) → n ≡ size_of i → n ≡ shownSize i
-unfolding shownSize
-size-plain i n e h = other _ _ _ _ _ e h
+pub size_plain : (i : Inode) (n : ℕ) → (compressed i ≡ 1 → ⊥) → n ≡ size_of i → n ≡ shown_size i
+unfolding shown_size
+size_plain i n e h = other _ _ _ _ _ e h
 
-pub own-told : (b : List ℕ) (v : Volume) (id : ℕ) (i : Inode) (s : Step) (z m n : ℕ) → Begins b (searchOf v id 4) s (scanOf b (searchOf v id 4) 0) → z ≡ shownSize i → m ≡ cap (0 + z)
-    → n ≡ cap (length (readable (attributeAt v.reader b) (run_at b (searchOf v id 4) s s.from)))
-    → record { totals = counts 1 m n; below = 0 } ≡ capped (ownWeight b v id i)
-unfolding attributesOn
-own-told b v id i s z m n g y h k =
-    let a : m ≡ cap (shownSize i) = omega arith in
-    let c : n ≡ cap (length (readable (attributeAt v.reader b) (scanOf b (searchOf v id 4) 0))) = rw g.run at k in
+pub own_told : (b : List ℕ) (v : Volume) (id : ℕ) (i : Inode) (s : Step) (z m n : ℕ) → Begins b (search_of v id 4) s (scan_of b (search_of v id 4) 0) → z ≡ shown_size i → m ≡ cap (0 + z)
+    → n ≡ cap (length (readable (attribute_at v.reader b) (run_at b (search_of v id 4) s s.from)))
+    → record { totals = counts 1 m n; below = 0 } ≡ capped (own_weight b v id i)
+unfolding attributes_on
+own_told b v id i s z m n g y h k =
+    let a : m ≡ cap (shown_size i) = omega arith in
+    let c : n ≡ cap (length (readable (attribute_at v.reader b) (scan_of b (search_of v id 4) 0))) = rw g.run at k in
     λ j. record { totals = counts 1 (a j) (c j); below = 0 }
 
 -- ---- a node and all below it
@@ -96,11 +96,11 @@ pub record Small (w : Weight) : Type 0 where
 pub capped_small : (t w : Weight) → t ≡ capped w → Small t
 capped_small t w e = rw e (record { nodes = omega arith; bytes = omega arith; attrs = omega arith; below = omega arith })
 
-pub entered-small : (t u x : Weight) → Small t → u ≡ entered t x → Small u
-entered-small t u x s e = rw e (record { nodes = omega arith; bytes = omega arith; attrs = omega arith; below = omega (arith, s.below) })
+pub entered_small : (t u x : Weight) → Small t → u ≡ entered t x → Small u
+entered_small t u x s e = rw e (record { nodes = omega arith; bytes = omega arith; attrs = omega arith; below = omega (arith, s.below) })
 
-small-capped : (t : Weight) → Small t → capped (beside t noWeight) ≡ t
-small-capped t s =
+small_capped : (t : Weight) → Small t → capped (beside t no_weight) ≡ t
+small_capped t s =
     let a : cap (t.totals.nodes + 0) ≡ t.totals.nodes = omega (arith, s.nodes) in
     let b : cap (t.totals.bytes + 0) ≡ t.totals.bytes = omega (arith, s.bytes) in
     let c : cap (t.totals.attrs + 0) ≡ t.totals.attrs = omega (arith, s.attrs) in
@@ -110,30 +110,30 @@ small-capped t s =
 max_assoc : (x y z : ℕ) → max (max x y) z ≡ max x (max y z)
 max_assoc x y z = omega arith
 
-cap-max : (x y : ℕ) → cap (max x y) ≡ max (cap x) (cap y)
-cap-max x y = omega arith
+cap_max : (x y : ℕ) → cap (max x y) ≡ max (cap x) (cap y)
+cap_max x y = omega arith
 
-cap-cap : (x : ℕ) → cap (cap x) ≡ cap x
-cap-cap x = omega arith
+cap_cap : (x : ℕ) → cap (cap x) ≡ cap x
+cap_cap x = omega arith
 
-cap-suc : (x : ℕ) → cap (cap x + 1) ≡ cap (suc x)
-cap-suc x = omega arith
+cap_suc : (x : ℕ) → cap (cap x + 1) ≡ cap (suc x)
+cap_suc x = omega arith
 
 -- an entry's node that was counted, with what is left; and a node by itself, with its entries
-entered-capped : (t w l : Weight) → capped (beside (entered t (capped w)) l) ≡ capped (beside t (beside (under w) l))
-entered-capped t w l =
+entered_capped : (t w l : Weight) → capped (beside (entered t (capped w)) l) ≡ capped (beside t (beside (under w) l))
+entered_capped t w l =
     let count : (x y z : ℕ) → cap (cap (x + cap y) + z) ≡ cap (x + (y + z)) = λ x y z. omega arith in
     let depth : (x y z : ℕ) → cap (max (max x (cap (cap y + 1))) z) ≡ cap (max x (max (suc y) z))
-    = λ x y z. rw (cap-suc y) (simp (cap-max, cap-cap, max_assoc)) in
+    = λ x y z. rw (cap_suc y) (simp (cap_max, cap_cap, max_assoc)) in
     λ i. record {
       totals = counts (count t.totals.nodes w.totals.nodes l.totals.nodes i) (count t.totals.bytes w.totals.bytes l.totals.bytes i) (count t.totals.attrs w.totals.attrs l.totals.attrs i);
       below = depth t.below w.below l.below i;
     }
 
-beside-capped : (t l : Weight) → capped (beside (capped t) l) ≡ capped (beside t l)
-beside-capped t l =
+beside_capped : (t l : Weight) → capped (beside (capped t) l) ≡ capped (beside t l)
+beside_capped t l =
     let count : (x z : ℕ) → cap (cap x + z) ≡ cap (x + z) = λ x z. omega arith in
-    let depth : (x z : ℕ) → cap (max (cap x) z) ≡ cap (max x z) = λ x z. simp (cap-max, cap-cap) in
+    let depth : (x z : ℕ) → cap (max (cap x) z) ≡ cap (max x z) = λ x z. simp (cap_max, cap_cap) in
     λ i. record {
       totals = counts (count t.totals.nodes l.totals.nodes i) (count t.totals.bytes l.totals.bytes i) (count t.totals.attrs l.totals.attrs i);
       below = depth t.below l.below i;
@@ -141,62 +141,62 @@ beside-capped t l =
 
 -- the turns of the loop over the entries
 module _ (w : ℕ → Weight) (b : List ℕ) (q : Search) (s : Step) (i : ℕ) (u whole : Weight)
-    (inv : capped (beside u (weighAll w (readable (entry_at q.keys.hashed q.keys.reader b) (run_at b q s i)))) ≡ whole) (k : Small u)
-    (x : Seen Entry) (t : x ≡ seenIn (entry_at q.keys.hashed q.keys.reader b) (inStep b q s.reached i)) where
+    (inv : capped (beside u (weigh_all w (readable (entry_at q.keys.hashed q.keys.reader b) (run_at b q s i)))) ≡ whole) (k : Small u)
+    (x : Seen Entry) (t : x ≡ seen_in (entry_at q.keys.hashed q.keys.reader b) (in_step b q s.reached i)) where
   nothing_left : readable (entry_at q.keys.hashed q.keys.reader b) (run_at b q s i) ≡ [] → u ≡ whole
-  unfolding weighAll
-  nothing_left e = sym (small-capped u k) ∙ (rw e at inv)
+  unfolding weigh_all
+  nothing_left e = sym (small_capped u k) ∙ (rw e at inv)
 
-  pub weigh-over : x ≡ over → u ≡ whole
-  weigh-over e = nothing_left (readable-over (entry_at q.keys.hashed q.keys.reader b) b q s i x t e)
+  pub weigh_over : x ≡ over → u ≡ whole
+  weigh_over e = nothing_left (readable_over (entry_at q.keys.hashed q.keys.reader b) b q s i x t e)
 
-  pub weigh-no : (z : Refusal) → x ≡ refusal z → u ≡ whole
-  weigh-no z e = nothing_left (readable-no (entry_at q.keys.hashed q.keys.reader b) b q s i x t z e)
+  pub weigh_no : (z : Refusal) → x ≡ refusal z → u ≡ whole
+  weigh_no z e = nothing_left (readable_no (entry_at q.keys.hashed q.keys.reader b) b q s i x t z e)
 
-  pub weigh-passed : (m : Step) → x ≡ passed → Begins b q m (left b q s.path s.level s.nodes)
-      → capped (beside u (weighAll w (readable (entry_at q.keys.hashed q.keys.reader b) (run_at b q m m.from)))) ≡ whole
-  weigh-passed m e h = rw (readable-passed (entry_at q.keys.hashed q.keys.reader b) b q s i x t m e h) inv
+  pub weigh_passed : (m : Step) → x ≡ passed → Begins b q m (left b q s.path s.level s.nodes)
+      → capped (beside u (weigh_all w (readable (entry_at q.keys.hashed q.keys.reader b) (run_at b q m m.from)))) ≡ whole
+  weigh_passed m e h = rw (readable_passed (entry_at q.keys.hashed q.keys.reader b) b q s i x t m e h) inv
 
-  pub weigh-next : (a : Entry) (c : ℕ) (y r : Weight) → x ≡ element a c → y ≡ capped (w a.file_id) → r ≡ entered u y
-      → capped (beside r (weighAll w (readable (entry_at q.keys.hashed q.keys.reader b) (run_at b q s c)))) ≡ whole
-  unfolding weighAll
-  weigh-next a c y r e g h =
-      let l = weighAll w (readable (entry_at q.keys.hashed q.keys.reader b) (run_at b q s c)) in
-      ap (λ (z : Weight). capped (beside z l)) (h ∙ ap (entered u) g) ∙ entered-capped u (w a.file_id) l
-      ∙ ap (λ (es : List Entry). capped (beside u (weighAll w es))) (sym (readable-at (entry_at q.keys.hashed q.keys.reader b) b q s i x t a c e)) ∙ inv
+  pub weigh_next : (a : Entry) (c : ℕ) (y r : Weight) → x ≡ element a c → y ≡ capped (w a.file_id) → r ≡ entered u y
+      → capped (beside r (weigh_all w (readable (entry_at q.keys.hashed q.keys.reader b) (run_at b q s c)))) ≡ whole
+  unfolding weigh_all
+  weigh_next a c y r e g h =
+      let l = weigh_all w (readable (entry_at q.keys.hashed q.keys.reader b) (run_at b q s c)) in
+      ap (λ (z : Weight). capped (beside z l)) (h ∙ ap (entered u) g) ∙ entered_capped u (w a.file_id) l
+      ∙ ap (λ (es : List Entry). capped (beside u (weigh_all w es))) (sym (readable_at (entry_at q.keys.hashed q.keys.reader b) b q s i x t a c e)) ∙ inv
 
 -- the node, by what was read of its inode
 module _ (b : List ℕ) (v : Volume) (id levels : ℕ) where
-  pub weight-none : levels ≡ 0 → noWeight ≡ capped (weight b v levels id)
+  pub weight_none : levels ≡ 0 → no_weight ≡ capped (weight b v levels id)
   unfolding weight
-  weight-none e = rw e
+  weight_none e = rw e
 
-  module _ (k : levels ≡ 0 → ⊥) (r : InodeFound) (p : inodeFound r ≡ inodeOf b v id 0) where
-    one_less : weight b v levels id ≡ weightBy b v (weight b v (levels - 1)) id (inodeOf b v id 0).answer
+  module _ (k : levels ≡ 0 → ⊥) (r : InodeFound) (p : inode_found r ≡ inode_of b v id 0) where
+    one_less : weight b v levels id ≡ weight_by b v (weight b v (levels - 1)) id (inode_of b v id 0).answer
     unfolding weight
     one_less = let m : levels ≡ suc (levels - 1) = omega arith in ap (λ (n : ℕ). weight b v n id) m
 
-    read_as : (x : InodeRead) → r.inode ≡ x → (inodeOf b v id 0).answer ≡ inodeTold x
-    read_as x q = ap (λ (c : Counted Inode). c.answer) (sym p) ∙ ap inodeTold q
+    read_as : (x : InodeRead) → r.inode ≡ x → (inode_of b v id 0).answer ≡ inode_told x
+    read_as x q = ap (λ (c : Counted Inode). c.answer) (sym p) ∙ ap inode_told q
 
-    pub weight-no : (w : Refusal) → r.inode ≡ InodeRead.No w → noWeight ≡ capped (weight b v levels id)
-    weight-no w q = sym (ap capped (one_less ∙ ap (weightBy b v (weight b v (levels - 1)) id) (read_as (InodeRead.No w) q)))
+    pub weight_no : (w : Refusal) → r.inode ≡ InodeRead.No w → no_weight ≡ capped (weight b v levels id)
+    weight_no w q = sym (ap capped (one_less ∙ ap (weight_by b v (weight b v (levels - 1)) id) (read_as (InodeRead.No w) q)))
 
     -- the loop that ended
-    pub weight-done : (i : Inode) (q : Search) (t : Step) (o z : Weight) → r.inode ≡ InodeRead.Got i → q ≡ searchOf v id 9 → Begins b (searchOf v id 9) t (scanOf b (searchOf v id 9) 0)
-        → o ≡ capped (ownWeight b v id i) → z ≡ capped (beside o (weighAll (weight b v (levels - 1)) (readable (entry_at q.keys.hashed q.keys.reader b) (run_at b q t t.from)))) → z ≡ capped (weight b v levels id)
-    unfolding entriesOn
-    weight-done i q t o z f e g h last =
+    pub weight_done : (i : Inode) (q : Search) (t : Step) (o z : Weight) → r.inode ≡ InodeRead.Got i → q ≡ search_of v id 9 → Begins b (search_of v id 9) t (scan_of b (search_of v id 9) 0)
+        → o ≡ capped (own_weight b v id i) → z ≡ capped (beside o (weigh_all (weight b v (levels - 1)) (readable (entry_at q.keys.hashed q.keys.reader b) (run_at b q t t.from)))) → z ≡ capped (weight b v levels id)
+    unfolding entries_on
+    weight_done i q t o z f e g h last =
         let w = weight b v (levels - 1) in
-        let all : readable (entry_at q.keys.hashed q.keys.reader b) (run_at b q t t.from) ≡ readable (entry_at (hashedKeys v) v.reader b) (scanOf b (searchOf v id 9) 0)
-        = ap (λ (a : Search). readable (entry_at a.keys.hashed a.keys.reader b) (run_at b a t t.from)) e ∙ ap (readable (entry_at (hashedKeys v) v.reader b)) g.run in
-        last ∙ (λ j. capped (beside (h j) (weighAll w (all j)))) ∙ beside-capped (ownWeight b v id i) (weighAll w (readable (entry_at (hashedKeys v) v.reader b) (scanOf b (searchOf v id 9) 0)))
-        ∙ sym (ap capped (one_less ∙ ap (weightBy b v w id) (read_as (InodeRead.Got i) f)))
+        let all : readable (entry_at q.keys.hashed q.keys.reader b) (run_at b q t t.from) ≡ readable (entry_at (hashed_keys v) v.reader b) (scan_of b (search_of v id 9) 0)
+        = ap (λ (a : Search). readable (entry_at a.keys.hashed a.keys.reader b) (run_at b a t t.from)) e ∙ ap (readable (entry_at (hashed_keys v) v.reader b)) g.run in
+        last ∙ (λ j. capped (beside (h j) (weigh_all w (all j)))) ∙ beside_capped (own_weight b v id i) (weigh_all w (readable (entry_at (hashed_keys v) v.reader b) (scan_of b (search_of v id 9) 0)))
+        ∙ sym (ap capped (one_less ∙ ap (weight_by b v w id) (read_as (InodeRead.Got i) f)))
 
 pub some_left : (n : ℕ) → (n ≡ 0 → ⊥) → 1 ≤ n
 some_left n h = omega arith
 
-pub less-left : (n t : ℕ) → (n ≡ 0 → ⊥) → n ≡ t → n - 1 < t
-less-left n t h e = omega arith
+pub less_left : (n t : ℕ) → (n ≡ 0 → ⊥) → n ≡ t → n - 1 < t
+less_left n t h e = omega arith
 
-pub ruleset nodes = (rules, seens, less-at, less-passed, weight-none, weight-no, some_left)
+pub ruleset nodes = (rules, seens, less_at, less_passed, weight_none, weight_no, some_left)

@@ -1,6 +1,6 @@
 // Counts that stay at 2^64 - 1. In a listing that is not too long none comes near it.
 ghost use Rattle.std.specs.Prelude.{◌≡◌, ◌+◌, max};
-ghost use Rattle.tally.specs.Weight.{cap, entered, tallyTold};
+ghost use Rattle.tally.specs.Weight.{cap, entered, tally_told};
 
 #[derive(Drop)]
 pub struct Tally {
@@ -30,7 +30,7 @@ fn greater(a: u64, b: u64) -> u64
 
 // What an entry's node counts for is added; it lies one level lower.
 pub fn with_entry(t: Tally, x: Tally) -> Tally
-    ensures { tallyTold result ≡ entered (tallyTold t) (tallyTold x) }
+    ensures { tally_told result ≡ entered (tally_told t) (tally_told x) }
 {
     Tally {
         nodes: add(t.nodes, x.nodes),

@@ -2,10 +2,10 @@
 ghost use Rattle.std.specs.Prelude.{◌≡◌, length};
 ghost use Rattle.cursor.specs.Left.{run_at};
 ghost use Rattle.cursor.specs.Way.{Leads};
-ghost use Rattle.records.specs.Attribute.{attributeAt};
-ghost use Rattle.lists.specs.Lists.{searchOf};
+ghost use Rattle.records.specs.Attribute.{attribute_at};
+ghost use Rattle.lists.specs.Lists.{search_of};
 ghost use Rattle.lists.specs.Inner.{readable};
-ghost use Rattle.tally.specs.Weight.{cap, capped, shownSize, ownWeight, tallyTold};
+ghost use Rattle.tally.specs.Weight.{cap, capped, shown_size, own_weight, tally_told};
 
 use crate::counts::{Tally, add};
 use cursor::{Step, Way, next};
@@ -15,7 +15,7 @@ use lists::{AttributeIn, attribute_in, list_on, search};
 use volume::Volume;
 
 fn count_attributes(image: &[u8], v: Volume, id: u64, start: Step) -> u64
-    ensures { result ≡ cap (length (readable (attributeAt v.reader image.now) (run_at image.now (searchOf v id 4) start start.from))) }
+    ensures { result ≡ cap (length (readable (attribute_at v.reader image.now) (run_at image.now (search_of v id 4) start start.from))) }
 {
     let q = search(v, id, 4);
     let keys = q.keys;
@@ -42,7 +42,7 @@ fn count_attributes(image: &[u8], v: Volume, id: u64, start: Step) -> u64
 
 // How many bytes its data form shows.
 fn shown_size(i: Inode) -> u64
-    ensures { result ≡ shownSize i }
+    ensures { result ≡ shown_size i }
 {
     let owner = i.owner;
     if owner.bsd_flags / 32 % 2 == 1 {
@@ -53,8 +53,8 @@ fn shown_size(i: Inode) -> u64
 
 // The inode of an id, on the way down to it.
 pub fn own_tally(image: &[u8], v: Volume, id: u64, i: Inode, w: Way) -> Tally
-    requires { Leads image.now (searchOf v id 3) 0 w }
-    ensures { tallyTold result ≡ capped (ownWeight image.now v id i) }
+    requires { Leads image.now (search_of v id 3) 0 w }
+    ensures { tally_told result ≡ capped (own_weight image.now v id i) }
 {
     let attributes = list_on(image, v, id, 4, w, 0);
     Tally {

@@ -1,6 +1,6 @@
 // A node and all below it. What can't be read counts for nothing: a listing has been refused for it.
 ghost use Rattle.std.specs.Prelude.{◌≡◌};
-ghost use Rattle.tally.specs.Weight.{capped, weight, tallyTold};
+ghost use Rattle.tally.specs.Weight.{capped, weight, tally_told};
 
 use crate::counts::{Tally, with_entry};
 use crate::own::own_tally;
@@ -11,7 +11,7 @@ use volume::Volume;
 
 // The node of an id, with as many levels as `levels` from it on.
 pub fn tally_node(image: &[u8], v: Volume, id: u64, levels: u32) -> Tally
-    ensures { tallyTold result ≡ capped (weight image.now v levels id) }
+    ensures { tally_told result ≡ capped (weight image.now v levels id) }
 {
     let none = Tally {
         nodes: 0,

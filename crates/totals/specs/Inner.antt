@@ -1,7 +1,7 @@
--- What the code asks of some bytes at once. It needs no belief: `totals_in` promises `totalsOf` alone.
+-- What the code asks of some bytes at once. It needs no belief: `totals_in` promises `totals_of` alone.
 use Rattle.std.specs.Prelude.{ℕ, Bool, true, false, List, [], ◌∷◌}
-use Rattle.error.specs.Answer.{ifEq}
+use Rattle.error.specs.Answer.{if_eq}
 
-unfoldable pub hasLf : List ℕ → Bool
-hasLf [] = false
-hasLf (c ∷ x) = ifEq c 10 true (hasLf x)
+unfoldable pub has_lf : List ℕ → Bool
+has_lf [] = false
+has_lf (c ∷ x) = if_eq c 10 true (has_lf x)

@@ -1,7 +1,7 @@
 // What the lines of a listing count for: document 02, request 08.
 ghost use Rattle.std.specs.Prelude.{◌≡◌, length, drop, ◌+◌};
-ghost use Rattle.totals.specs.Totals.{begins, lineLength, lineTotals, totalsOf};
-ghost use Rattle.totals.specs.Inner.{hasLf};
+ghost use Rattle.totals.specs.Totals.{begins, line_length, line_totals, totals_of};
+ghost use Rattle.totals.specs.Inner.{has_lf};
 
 #[derive(Drop)]
 pub struct Totals {
@@ -27,7 +27,7 @@ fn begins(line: &[u8], start: &[u8]) -> bool
 }
 
 fn line_totals(line: &[u8]) -> Totals
-    ensures { result ≡ lineTotals line.now }
+    ensures { result ≡ line_totals line.now }
 {
     if begins(line, b"(node ") {
         return Totals {
@@ -59,7 +59,7 @@ fn line_totals(line: &[u8]) -> Totals
 
 // Whether there is an LF. Every byte is looked at, so that many are taken at a time.
 fn has_lf(b: &[u8]) -> bool
-    ensures { result ≡ hasLf b.now }
+    ensures { result ≡ has_lf b.now }
 {
     let mut any = false;
     let mut i = 0;
@@ -74,7 +74,7 @@ fn has_lf(b: &[u8]) -> bool
 
 // Further on in the line that stands at `at`, by 64 bytes as long as none of them is an LF.
 fn along(text: &[u8], at: usize) -> usize
-    ensures { result + lineLength (drop result text.now) ≡ at + lineLength (drop at text.now) }
+    ensures { result + line_length (drop result text.now) ≡ at + line_length (drop at text.now) }
 {
     let mut i = at;
     while i < text.len() {
@@ -91,7 +91,7 @@ fn along(text: &[u8], at: usize) -> usize
 
 // Where the line that stands at `at` ends: at its LF, or where the text does.
 fn line_end(text: &[u8], at: usize) -> usize
-    ensures { result ≡ at + lineLength (drop at text.now) }
+    ensures { result ≡ at + line_length (drop at text.now) }
 {
     let mut i = along(text, at);
     while i < text.len() {
@@ -104,7 +104,7 @@ fn line_end(text: &[u8], at: usize) -> usize
 }
 
 pub fn totals_in(text: &[u8]) -> Totals
-    ensures { result ≡ totalsOf text.now }
+    ensures { result ≡ totals_of text.now }
 {
     let mut t = Totals {
         nodes: 0,

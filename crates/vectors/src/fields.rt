@@ -1,5 +1,5 @@
 // Numbers of the bytes 1 to 10, at every offset.
-use bytes::Number;
+use byte_fields::Number;
 
 fn show(n: Number) {
     match n {
@@ -18,9 +18,9 @@ fn show(n: Number) {
 fn show_at(off: usize, width: u8) {
     let b = b"\x01\x02\x03\x04\x05\x06\x07\x08\x09\x0A";
     match width {
-        2 => show(bytes::u16_at(b, off)),
-        4 => show(bytes::u32_at(b, off)),
-        _ => show(bytes::u64_at(b, off)),
+        2 => show(byte_fields::u16_at(b, off)),
+        4 => show(byte_fields::u32_at(b, off)),
+        _ => show(byte_fields::u64_at(b, off)),
     }
 }
 

@@ -1,5 +1,5 @@
 // CRC-32C: RFC 3720, B.4, and the catalogue's check value. Fletcher sums worked by hand. The marked lines of document 01 on both.
-use bytes::Number;
+use byte_fields::Number;
 
 fn show(label: &[u8], value: u64, width: usize) {
     io::write_all(1, label);

@@ -1,18 +1,18 @@
 -- Opening a volume. Document 01, "A volume is tested for encryption, then sealing (both 3), then its maps and root"; fs.rs, `Volume::open`.
 use Rattle.std.specs.Prelude.{ℕ, ◌/◌, ◌%◌, List}
-use Rattle.error.specs.Answer.{Answer, got, no, ifEq}
+use Rattle.error.specs.Answer.{Answer, got, no, if_eq}
 use Rattle.error.specs.declared.Refusal.TheVariants.{Unsupported}
 use Rattle.arith.specs.Checked.{ticked}
 use Rattle.obj.specs.Block.{block_of}
 use Rattle.obj.specs.declared.reader.Reader.{Reader}
-use Rattle.node.specs.Node.{infoOf}
+use Rattle.node.specs.Node.{info_of}
 use Rattle.lookup.specs.Counted.{Counted, after, from, onto}
-use Rattle.lookup.specs.Read.{nodeAt}
-use Rattle.lookup.specs.Map.{resolveAt}
+use Rattle.lookup.specs.Read.{node_at}
+use Rattle.lookup.specs.Map.{resolve_at}
 use Rattle.lookup.specs.declared.map.Resolve.TheVariants.{Mapped}
-use Rattle.omap.specs.Load.{mapAt}
+use Rattle.omap.specs.Load.{map_at}
 use Rattle.nx.specs.Open.{open_at}
-use Rattle.nx.specs.Volume.{volumeSuperblock}
+use Rattle.nx.specs.Volume.{volume_superblock}
 use Rattle.nx.specs.declared.container.Container.{Container}
 use Rattle.nx.specs.declared.volume.VolumeSuperblock.{VolumeSuperblock}
 use Rattle.checkpoints.specs.declared.by_number.Choice.TheVariants.{Latest, Number}
@@ -26,29 +26,29 @@ abbrev pub opening : VolumeOpening → Answer Volume
 opening (Got v) = got v
 opening (No e) = no e
 
-abbrev pub openTold : VolumeOpened → Counted Volume
-openTold r = after r.nodes (opening r.volume)
+abbrev pub open_told : VolumeOpened → Counted Volume
+open_told r = after r.nodes (opening r.volume)
 
 -- fs.rs, `Volume::open`, in its six steps, of a volume's superblock, s nodes having been gone through before: encryption (APFS_FS_UNENCRYPTED is 0x1 of
 -- the flags), sealing (APFS_INCOMPAT_SEALED_VOLUME is 0x20), the volume's own map, the root's address in it (a mapping with flag 0x4 is 3), the root, which
 -- counts once it has passed as a node, and its info
-unfoldable pub openFrom : List ℕ → Reader → VolumeSuperblock → ℕ → ℕ → Counted Volume
-openFrom image r sb xid s =
-    ifEq (sb.fs_flags % 2) 0 (after s (no Unsupported))
-    (ifEq (sb.incompat / 32 % 2) 1 (after s (no Unsupported))
-    (onto (mapAt r image sb.omap_oid xid s) λ m t.
-    onto (resolveAt r image (Mapped m) sb.root_tree_oid t) λ p u.
-    from u (nodeAt r image p) λ root.
-    from (ticked u) (infoOf root (block_of r image root.block)) λ info.
+unfoldable pub open_from : List ℕ → Reader → VolumeSuperblock → ℕ → ℕ → Counted Volume
+open_from image r sb xid s =
+    if_eq (sb.fs_flags % 2) 0 (after s (no Unsupported))
+    (if_eq (sb.incompat / 32 % 2) 1 (after s (no Unsupported))
+    (onto (map_at r image sb.omap_oid xid s) λ m t.
+    onto (resolve_at r image (Mapped m) sb.root_tree_oid t) λ p u.
+    from u (node_at r image p) λ root.
+    from (ticked u) (info_of root (block_of r image root.block)) λ info.
     after (ticked u) (got (record { reader = r; sb = sb; map = m; root = root; info = info }))))
 
 -- the volume at an index, s nodes having been gone through before
-unfoldable pub volumeOpen : List ℕ → Container → ℕ → ℕ → Counted Volume
-volumeOpen image c index s = onto (volumeSuperblock image c index s) λ sb t. openFrom image c.reader sb c.sb.xid t
+unfoldable pub volume_open : List ℕ → Container → ℕ → ℕ → Counted Volume
+volume_open image c index s = onto (volume_superblock image c index s) λ sb t. open_from image c.reader sb c.sb.xid t
 
 -- a volume of an image: its container opens first, at the checkpoint that is named
-unfoldable pub volumeOfImage : List ℕ → Which → Counted Volume
-volumeOfImage image w = onto (open_at w.checkpoint image) λ c s. volumeOpen image c w.index s
+unfoldable pub volume_of_image : List ℕ → Which → Counted Volume
+volume_of_image image w = onto (open_at w.checkpoint image) λ c s. volume_open image c w.index s
 
 -- "Opening without a number remains the Rust's answer": document 02, request 04
 abbrev pub latest : ℕ → Which

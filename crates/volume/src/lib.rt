@@ -2,11 +2,11 @@
 mod rule;
 
 ghost use Rattle.std.specs.Prelude.{◌≡◌};
-ghost use Rattle.volume.specs.Open.{openTold, volumeOpen, volumeOfImage};
-ghost use Rattle.volume.specs.Inner.{rootedOf, tree_of, throughMap, mapFirst, tested_of};
+ghost use Rattle.volume.specs.Open.{open_told, volume_open, volume_of_image};
+ghost use Rattle.volume.specs.Inner.{rooted_of, tree_of, through_map, map_first, tested_of};
 
 use arith::tick;
-use bytes::Number;
+use byte_fields::Number;
 use checkpoints::Choice;
 use error::Refusal;
 use lookup::{Map, Resolve, read_node, resolve_child};
@@ -54,7 +54,7 @@ fn with_root(
     root: Node,
     nodes: u64,
 ) -> VolumeOpened
-    ensures { openTold result ≡ rootedOf image.now reader sb map root nodes }
+    ensures { open_told result ≡ rooted_of image.now reader sb map root nodes }
 {
     match info_of(reader.block(image, root.block), root) {
         Informed::Got(info) => VolumeOpened {
@@ -82,7 +82,7 @@ fn with_address(
     paddr: u64,
     nodes: u64,
 ) -> VolumeOpened
-    ensures { openTold result ≡ tree_of image.now reader sb map paddr nodes }
+    ensures { open_told result ≡ tree_of image.now reader sb map paddr nodes }
 {
     match read_node(reader, image, paddr) {
         Parsed::Got(root) => with_root(image, reader, sb, map, root, tick(nodes)),
@@ -101,7 +101,7 @@ fn with_map(
     map: Map,
     nodes: u64,
 ) -> VolumeOpened
-    ensures { openTold result ≡ throughMap image.now reader sb map nodes }
+    ensures { open_told result ≡ through_map image.now reader sb map nodes }
 {
     let found = resolve_child(reader, image, Resolve::Mapped(map), sb.root_tree_oid, nodes);
     let paddr = found.paddr;
@@ -121,7 +121,7 @@ fn with_superblock(
     xid: u64,
     nodes: u64,
 ) -> VolumeOpened
-    ensures { openTold result ≡ mapFirst image.now reader sb xid nodes }
+    ensures { open_told result ≡ map_first image.now reader sb xid nodes }
 {
     let loaded = omap::load(reader, image, sb.omap_oid, xid, nodes);
     let map = loaded.map;
@@ -136,7 +136,7 @@ fn with_superblock(
 
 // Encrypted and sealed volumes are refused.
 fn open_of(image: &[u8], reader: Reader, sb: VolumeSuperblock, xid: u64, nodes: u64) -> VolumeOpened
-    ensures { openTold result ≡ tested_of image.now reader sb xid nodes }
+    ensures { open_told result ≡ tested_of image.now reader sb xid nodes }
 {
     if sb.fs_flags % 2 == 0 {
         return VolumeOpened {
@@ -155,7 +155,7 @@ fn open_of(image: &[u8], reader: Reader, sb: VolumeSuperblock, xid: u64, nodes: 
 
 // The volume at an index of a container.
 pub fn open_volume(image: &[u8], c: Container, index: u64, nodes: u64) -> VolumeOpened
-    ensures { openTold result ≡ volumeOpen image.now c index nodes }
+    ensures { open_told result ≡ volume_open image.now c index nodes }
 {
     let found = volume_superblock(image, c, index, nodes);
     let volume = found.volume;
@@ -174,7 +174,7 @@ pub fn open_volume(image: &[u8], c: Container, index: u64, nodes: u64) -> Volume
 
 // A volume of an image.
 pub fn open_at(image: &[u8], which: Which) -> VolumeOpened
-    ensures { openTold result ≡ volumeOfImage image.now which }
+    ensures { open_told result ≡ volume_of_image image.now which }
 {
     let checkpoint = which.checkpoint;
     let opened = nx::open(image, checkpoint);

@@ -1,6 +1,6 @@
 // How a volume compares names, and which form its directory keys have (fs.rs, `NameRule`).
 ghost use Rattle.std.specs.Prelude.{◌≡◌};
-ghost use Rattle.volume.specs.Rule.{ruleOf, insensitive, hashedKeys};
+ghost use Rattle.volume.specs.Rule.{rule_of, insensitive, hashed_keys};
 
 use crate::Volume;
 
@@ -11,7 +11,7 @@ pub struct NameRule {
 }
 
 pub fn name_rule(v: Volume) -> NameRule
-    ensures { result ≡ ruleOf v }
+    ensures { result ≡ rule_of v }
 {
     let sb = v.sb;
     NameRule {
@@ -32,7 +32,7 @@ pub fn insensitive(rule: NameRule) -> bool
 
 // Whether directory keys hold a hash of the name.
 pub fn hashed_keys(v: Volume) -> bool
-    ensures { result ≡ hashedKeys v }
+    ensures { result ≡ hashed_keys v }
 {
     insensitive(name_rule(v))
 }

@@ -7,19 +7,19 @@ use native.Mathlib.Omega.{arith}
 use borrow.Author.Rules.{rules}
 use lib.Dec.{leb}
 use lib.ListN.{length, drop, length-append}
-use Rattle.error.specs.Answer.{Answer, got, no, pick, ifLe}
+use Rattle.error.specs.Answer.{Answer, got, no, pick, if_le}
 use Rattle.error.specs.declared.Refusal.{Refusal}
 use Rattle.error.specs.declared.Refusal.TheVariants.{BufferTooShort}
-use Rattle.bytes.proofs.Little.{little-length}
+use Rattle.byte_fields.proofs.Little.{little_length}
 use Rattle.text.specs.declared.Position.{Position}
 use Rattle.text.specs.declared.Position.TheVariants.{At, No}
-use Rattle.calls.specs.Filled.{Filled, filled, filledAt}
-use Rattle.wrong_word.specs.Mends.{Mend, mendsIn, entry, listed}
+use Rattle.calls.specs.Filled.{Filled, filled, filled_at}
+use Rattle.wrong_word.specs.Mends.{Mend, mends_in, entry, listed}
 
-pub listed-length : (ms : List Mend) → length (listed ms) ≡ 12 * length ms
+pub listed_length : (ms : List Mend) → length (listed ms) ≡ 12 * length ms
 unfolding listed entry
-listed-length [] = refl
-listed-length (m ∷ ms) = simp (length-append, little-length, listed-length ms) (omega arith)
+listed_length [] = refl
+listed_length (m ∷ ms) = simp (length-append, little_length, listed_length ms) (omega arith)
 
 -- how many entries of 12 bytes
 abbrev twelfth : Answer ℕ → Answer ℕ
@@ -29,9 +29,9 @@ twelfth (no e) = no e
 abbrev twelfths : Filled → Filled
 twelfths f = record { answer = twelfth f.answer; buffer = f.buffer }
 
-twelfths-in : (ms : List Mend) (b : List ℕ) → twelfths (filled (listed ms) b) ≡ mendsIn ms b
-unfolding filled mendsIn ifLe
-twelfths-in ms b = rw (listed-length ms) (of (leb (12 * length ms) (length b)))
+twelfths_in : (ms : List Mend) (b : List ℕ) → twelfths (filled (listed ms) b) ≡ mends_in ms b
+unfolding filled mends_in if_le
+twelfths_in ms b = rw (listed_length ms) (of (leb (12 * length ms) (length b)))
   where
     count : 12 * length ms / 12 ≡ length ms
     count = omega arith
@@ -42,11 +42,11 @@ twelfths-in ms b = rw (listed-length ms) (of (leb (12 * length ms) (length b)))
     of true = rw count
     of false = refl
 
-module _ (ms : List Mend) (b out : List ℕ) (r : Position) (p : filledAt r out ≡ filled (listed ms) b) where
-  pub entries-in : (n : ℕ) → r ≡ At n → filledAt (At (n / 12)) out ≡ mendsIn ms b
-  entries-in n e = ap twelfths (rw e at p) ∙ twelfths-in ms b
+module _ (ms : List Mend) (b out : List ℕ) (r : Position) (p : filled_at r out ≡ filled (listed ms) b) where
+  pub entries_in_lem : (n : ℕ) → r ≡ At n → filled_at (At (n / 12)) out ≡ mends_in ms b
+  entries_in_lem n e = ap twelfths (rw e at p) ∙ twelfths_in ms b
 
-  pub entries-short : (e : Refusal) → r ≡ No e → filledAt (No e) out ≡ mendsIn ms b
-  entries-short e q = ap twelfths (rw q at p) ∙ twelfths-in ms b
+  pub entries_short : (e : Refusal) → r ≡ No e → filled_at (No e) out ≡ mends_in ms b
+  entries_short e q = ap twelfths (rw q at p) ∙ twelfths_in ms b
 
-pub ruleset counts = (rules, entries-in, entries-short)
+pub ruleset counts = (rules, entries_in_lem, entries_short)

@@ -1,11 +1,11 @@
 -- How the list is found: a buyer may pass over this file. What the sums of an object lack, and what that gives at each place, is proved to be the list of
 -- specs/Mends.antt (`Found`, proofs/Solved.antt).
 use Rattle.std.specs.Prelude.{ℕ, zero, suc, ◌+◌, ◌-◌, ◌*◌, ◌/◌, ◌%◌, ◌^◌, ◌≤◌, ◌<◌, ◌≡◌, List, [], ◌∷◌, ◌++◌, length}
-use Rattle.error.specs.Answer.{ifEq}
-use Rattle.bytes.specs.Number.{little}
+use Rattle.error.specs.Answer.{if_eq}
+use Rattle.byte_fields.specs.Number.{little}
 use Rattle.checksum.specs.Fletcher.{M, s1, s2}
 use Rattle.checksum.specs.declared.Sums.{Sums}
-use Rattle.wrong_word.specs.Mends.{Mend, mend, mendsOf}
+use Rattle.wrong_word.specs.Mends.{Mend, mend, mends_of}
 use Rattle.wrong_word.specs.declared.Gap.{Gap}
 use Rattle.wrong_word.specs.declared.Gaps.{Gaps}
 use Rattle.wrong_word.specs.declared.Gaps.TheVariants.{Nothing, Of}
@@ -28,30 +28,30 @@ pub record Closes (b : List ℕ) (k : ℕ) : Type 0 where
   pub meets : (s1 b + s2 b + little 4 b 0 + (k + 1) * gap b) % M ≡ 0
 
 -- the words of a residue modulo 2 ^ 32 - 1: "the words 0 and 0xFFFFFFFF count as two"
-unfoldable pub wordsOfResidue : ℕ → ℕ → List Mend
-wordsOfResidue p r = ifEq r 0 (mend p 0 ∷ mend p (2 ^ 32 - 1) ∷ []) (mend p r ∷ [])
+unfoldable pub words_of_residue : ℕ → ℕ → List Mend
+words_of_residue p r = if_eq r 0 (mend p 0 ∷ mend p (2 ^ 32 - 1) ∷ []) (mend p r ∷ [])
 
 pub record Within (g : Gap) : Type 0 where
   pub by_most : g.by ≤ M
-  pub rest-less : g.rest < M
+  pub rest_less : g.rest < M
 
 -- from both sums and both stored halves
-unfoldable pub gapsWith : Sums → ℕ → ℕ → Gaps
-gapsWith s low high =
-    ifEq low 0 Nothing (ifEq high 0 Nothing (Of (record { by = M - (s.s1 + low + high) % M; rest = (s.s1 + s.s2 + low) % M })))
+unfoldable pub gaps_with : Sums → ℕ → ℕ → Gaps
+gaps_with s low high =
+    if_eq low 0 Nothing (if_eq high 0 Nothing (Of (record { by = M - (s.s1 + low + high) % M; rest = (s.s1 + s.s2 + low) % M })))
 
 -- at a place with k words from it on: the words of one residue, or none
-unfoldable pub solvedAt : Gap → List ℕ → ℕ → ℕ → List Mend
-solvedAt g b k p = ifEq ((g.rest + (k + 1) * g.by) % M) 0 (wordsOfResidue p ((little 4 b p + g.by) % M)) []
+unfoldable pub solved_at : Gap → List ℕ → ℕ → ℕ → List Mend
+solved_at g b k p = if_eq ((g.rest + (k + 1) * g.by) % M) 0 (words_of_residue p ((little 4 b p + g.by) % M)) []
 
 -- at n places from p on
-unfoldable pub solvedFrom : Gap → List ℕ → ℕ → ℕ → List Mend
-solvedFrom g b zero p = []
-solvedFrom g b (suc n) p = solvedAt g b (suc n) p ++ solvedFrom g b n (p + 4)
+unfoldable pub solved_from : Gap → List ℕ → ℕ → ℕ → List Mend
+solved_from g b zero p = []
+solved_from g b (suc n) p = solved_at g b (suc n) p ++ solved_from g b n (p + 4)
 
 abbrev pub solved : Gaps → List ℕ → List Mend
 solved Nothing b = []
-solved (Of g) b = solvedFrom g b ((length b - 8) / 4) 8
+solved (Of g) b = solved_from g b ((length b - 8) / 4) 8
 
 abbrev pub GapsWithin : List ℕ → Gaps → Type 0
 GapsWithin b Nothing = Unit {0}
@@ -59,5 +59,5 @@ GapsWithin b (Of g) = Within g × (8 ≤ length b)
 
 -- the gaps of an object give its list
 pub record Found (b : List ℕ) (r : Gaps) : Type 0 where
-  pub list : mendsOf b ≡ solved r b
+  pub list : mends_of b ≡ solved r b
   pub bounds : GapsWithin b r

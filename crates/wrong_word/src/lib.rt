@@ -1,15 +1,15 @@
 // One wrong word: which single words of an object that fails its checksum could be wrong, and what would stand in their
 // place. Document 02, request 13.
 ghost use Rattle.std.specs.Prelude.{◌≡◌, false, ◌+◌, ◌-◌, ◌*◌, ◌/◌, ◌%◌, ◌^◌, ◌≤◌, ◌<◌, eqb, length};
-ghost use Rattle.bytes.specs.Number.{little};
+ghost use Rattle.byte_fields.specs.Number.{little};
 ghost use Rattle.checksum.specs.Fletcher.{M, valid};
-ghost use Rattle.text.specs.Output.{outputOf, puts};
-ghost use Rattle.calls.specs.Filled.{filled, filledAt};
-ghost use Rattle.bytes.specs.Number.{littleBytes};
-ghost use Rattle.wrong_word.specs.Mends.{mend, mendsOf, mendsIn, listed, entry};
-ghost use Rattle.wrong_word.specs.Inner.{wordsOfResidue, Within, gapsWith, Found, solvedAt, solvedFrom, solved};
+ghost use Rattle.text.specs.Output.{output_of, puts};
+ghost use Rattle.calls.specs.Filled.{filled, filled_at};
+ghost use Rattle.byte_fields.specs.Number.{little_bytes};
+ghost use Rattle.wrong_word.specs.Mends.{mend, mends_of, mends_in, listed, entry};
+ghost use Rattle.wrong_word.specs.Inner.{words_of_residue, Within, gaps_with, Found, solved_at, solved_from, solved};
 
-use bytes::{Number, u32_at};
+use byte_fields::{Number, u32_at};
 use checksum::{Sums, fletcher64, verify};
 use text::{Position, put_byte};
 
@@ -32,7 +32,7 @@ enum Gaps {
 // From both sums and both stored halves. No checksum has a half of 0.
 fn gap_with(s: Sums, low: u64, high: u64) -> Gaps
     requires { (s.s1 < M) × (s.s2 < M) × (low ≤ M) × (high ≤ M) }
-    ensures { result ≡ gapsWith s low high }
+    ensures { result ≡ gaps_with s low high }
 {
     if low == 0 {
         return Gaps::Nothing;
@@ -93,7 +93,7 @@ fn closes(g: Gap, left: u64) -> bool
 
 // The n lowest bytes of a number, the lowest first.
 fn put_number(out: &mut [u8], room: usize, p: Position, n: u32, x: u64) -> Position
-    ensures { outputOf result out.new ≡ puts room (littleBytes n x) (outputOf p out.old) }
+    ensures { output_of result out.new ≡ puts room (little_bytes n x) (output_of p out.old) }
 {
     let mut q = p;
     let mut rest = x;
@@ -107,7 +107,7 @@ fn put_number(out: &mut [u8], room: usize, p: Position, n: u32, x: u64) -> Posit
 }
 
 fn put_mend(out: &mut [u8], room: usize, p: Position, place: u64, word: u64) -> Position
-    ensures { outputOf result out.new ≡ puts room (entry (mend place word)) (outputOf p out.old) }
+    ensures { output_of result out.new ≡ puts room (entry (mend place word)) (output_of p out.old) }
 {
     let a = put_number(out, room, p, 8, place);
     put_number(out, room, a, 4, word)
@@ -115,7 +115,7 @@ fn put_mend(out: &mut [u8], room: usize, p: Position, place: u64, word: u64) -> 
 
 // The words 0 and 0xFFFFFFFF are two, and have one residue.
 fn put_words(out: &mut [u8], room: usize, p: Position, place: u64, residue: u64) -> Position
-    ensures { outputOf result out.new ≡ puts room (listed (wordsOfResidue place residue)) (outputOf p out.old) }
+    ensures { output_of result out.new ≡ puts room (listed (words_of_residue place residue)) (output_of p out.old) }
 {
     if residue == 0 {
         let a = put_mend(out, room, p, place, 0);
@@ -135,7 +135,7 @@ fn put_at(
     at: usize,
 ) -> Position
     requires { Within g × (left < 2 ^ 63) × (at + 4 ≤ length object.now) }
-    ensures { outputOf result out.new ≡ puts room (listed (solvedAt g object.now left at)) (outputOf p out.old) }
+    ensures { output_of result out.new ≡ puts room (listed (solved_at g object.now left at)) (output_of p out.old) }
 {
     if closes(g, left as u64) {
         let w = word(object, at);
@@ -146,7 +146,7 @@ fn put_at(
 
 fn put_all_places(out: &mut [u8], room: usize, p: Position, g: Gap, object: &[u8]) -> Position
     requires { Within g × (8 ≤ length object.now) }
-    ensures { outputOf result out.new ≡ puts room (listed (solvedFrom g object.now ((length object.now - 8) / 4) 8)) (outputOf p out.old) }
+    ensures { output_of result out.new ≡ puts room (listed (solved_from g object.now ((length object.now - 8) / 4) 8)) (output_of p out.old) }
 {
     let mut q = p;
     let mut left = (object.len() - 8) / 4;
@@ -162,7 +162,7 @@ fn put_all_places(out: &mut [u8], room: usize, p: Position, g: Gap, object: &[u8
 // Measured first: a buffer that is too short is left as it was.
 fn show(g: Gap, object: &[u8], out: &mut [u8]) -> Position
     requires { Within g × (8 ≤ length object.now) }
-    ensures { filledAt result out.new ≡ filled (listed (solvedFrom g object.now ((length object.now - 8) / 4) 8)) out.old }
+    ensures { filled_at result out.new ≡ filled (listed (solved_from g object.now ((length object.now - 8) / 4) 8)) out.old }
 {
     let room = out.len();
     match put_all_places(&mut out[..0], room, Position::At(0), g, object) {
@@ -173,7 +173,7 @@ fn show(g: Gap, object: &[u8], out: &mut [u8]) -> Position
 
 // The bytes of the list.
 fn put_list(object: &[u8], out: &mut [u8]) -> Position
-    ensures { filledAt result out.new ≡ filled (listed (mendsOf object.now)) out.old }
+    ensures { filled_at result out.new ≡ filled (listed (mends_of object.now)) out.old }
 {
     let gaps = gap_of(object);
     match gaps {
@@ -184,7 +184,7 @@ fn put_list(object: &[u8], out: &mut [u8]) -> Position
 
 // The list of an object, 12 bytes an entry; how many there are.
 pub fn wrong_words(object: &[u8], out: &mut [u8]) -> Position
-    ensures { filledAt result out.new ≡ mendsIn (mendsOf object.now) out.old }
+    ensures { filled_at result out.new ≡ mends_in (mends_of object.now) out.old }
 {
     match put_list(object, out) {
         Position::At(n) => Position::At(n / 12),

@@ -1,6 +1,6 @@
 // The accepted blocks of a ring: how many they are, and their numbers.
 ghost use Rattle.std.specs.Prelude.{◌≡◌, ◌++◌, ◌+◌, ◌*◌, ◌^◌, ◌≤◌, ◌<◌, length, drop};
-ghost use Rattle.checkpoints.specs.Numbers.{numbersIn, descending};
+ghost use Rattle.checkpoints.specs.Numbers.{numbers_in, descending};
 ghost use Rattle.xid_list.specs.Listed.{bytes_of};
 
 use crate::insert::insert_number;
@@ -9,7 +9,7 @@ use obj::Reader;
 
 pub fn count_accepted(reader: Reader, image: &[u8], start: u64, ring: u32) -> usize
     requires { start + ring * reader.block_size < 2 ^ 64 }
-    ensures { result ≡ length (numbersIn reader image.now start ring ring 0) }
+    ensures { result ≡ length (numbers_in reader image.now start ring ring 0) }
 {
     let mut n: usize = 0;
     let mut i = ring;
@@ -25,8 +25,8 @@ pub fn count_accepted(reader: Reader, image: &[u8], start: u64, ring: u32) -> us
 
 // Backwards, each number put among those of the blocks after it.
 pub fn write_accepted(reader: Reader, image: &[u8], start: u64, ring: u32, out: &mut [u8]) -> usize
-    requires { (start + ring * reader.block_size < 2 ^ 64) × (8 * length (numbersIn reader image.now start ring ring 0) ≤ length out.old) }
-    ensures { (result ≡ length (numbersIn reader image.now start ring ring 0)) × (out.new ≡ bytes_of (descending (numbersIn reader image.now start ring ring 0)) ++ drop (8 * result) out.old) }
+    requires { (start + ring * reader.block_size < 2 ^ 64) × (8 * length (numbers_in reader image.now start ring ring 0) ≤ length out.old) }
+    ensures { (result ≡ length (numbers_in reader image.now start ring ring 0)) × (out.new ≡ bytes_of (descending (numbers_in reader image.now start ring ring 0)) ++ drop (8 * result) out.old) }
 {
     let mut n: usize = 0;
     let mut i = ring;

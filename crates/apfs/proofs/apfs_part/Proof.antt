@@ -3,8 +3,8 @@ use Rattle.results.proofs.Results.{ends}
 use Rattle.apfs.proofs.apfs_part.Statement.{statement}
 use Rattle.apfs.proofs.apfs_part.Tie as tie
 
-pub apfs-part-spec : {M : Type 1} → statement M
-apfs-part-spec =
+pub apfs_part_spec : {M : Type 1} → statement M
+apfs_part_spec =
     tie.close
     (tie.spec
     (λ c κs. search rules)

@@ -1,10 +1,10 @@
 use borrow.Author.Rules.{rules}
-use Rattle.calls.proofs.Filling.{filled-short, filled-written}
+use Rattle.calls.proofs.Filling.{filled_short, filled_written}
 use Rattle.attribute_lines.proofs.show_embedded.Statement.{statement}
 use Rattle.attribute_lines.proofs.show_embedded.Tie as tie
 
-pub show-embedded-spec : {M : Type 1} → statement M
-show-embedded-spec =
+pub show_embedded_spec : {M : Type 1} → statement M
+show_embedded_spec =
     tie.close
     (tie.spec
     (λ c. search rules)
@@ -14,6 +14,6 @@ show-embedded-spec =
     (λ c. search rules)
     (λ c κs. search rules)
     (λ c. search rules)
-    (λ c. filled-short _ _ c.before.before.before.before.before.put-attribute-embedded.new.0 _ c.before.before.before.before.before.put-attribute-embedded.auto.0 c.before.before.before.before.before.put-attribute-embedded.ensures _ c.before.w.given.1)
+    (λ c. filled_short _ _ c.before.before.before.before.before.put-attribute-embedded.new.0 _ c.before.before.before.before.before.put-attribute-embedded.auto.0 c.before.before.before.before.before.put-attribute-embedded.ensures _ c.before.w.given.1)
     (λ c. search rules)
-    (λ c. filled-written _ _ c.before.before.before.before.before.before.before.before.put-attribute-embedded.new.0 _ c.before.before.before.before.before.before.before.before.put-attribute-embedded.auto.0 c.before.before.before.before.before.before.before.before.put-attribute-embedded.ensures _ c.before.before.put-attribute-embedded2.result c.before.before.put-attribute-embedded2.new.0 c.before.before.before.before.enum_told.given.1 c.before.before.put-attribute-embedded2.ensures))
+    (λ c. filled_written _ _ c.before.before.before.before.before.before.before.before.put-attribute-embedded.new.0 _ c.before.before.before.before.before.before.before.before.put-attribute-embedded.auto.0 c.before.before.before.before.before.before.before.before.put-attribute-embedded.ensures _ c.before.before.put-attribute-embedded2.result c.before.before.put-attribute-embedded2.new.0 c.before.before.before.before.enum_told.given.1 c.before.before.put-attribute-embedded2.ensures))

@@ -3,8 +3,8 @@ use Rattle.attribute_lines.proofs.Steps.{onward}
 use Rattle.attribute_lines.proofs.streamed_of.Statement.{statement}
 use Rattle.attribute_lines.proofs.streamed_of.Tie as tie
 
-pub streamed-of-spec : {M : Type 1} → statement M
-streamed-of-spec =
+pub streamed_of_spec : {M : Type 1} → statement M
+streamed_of_spec =
     tie.close
     (tie.spec
     (λ c κs. search rules)

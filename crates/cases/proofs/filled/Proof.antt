@@ -3,8 +3,8 @@ use Rattle.std.proofs.Common.{sym, arith, length-take-le, rules}
 use Rattle.cases.proofs.filled.Statement.{statement}
 use Rattle.cases.proofs.filled.Tie as tie
 
-pub filled-spec : {M : Type 1} → statement M
-filled-spec =
+pub filled_spec : {M : Type 1} → statement M
+filled_spec =
     tie.close
     (tie.spec
     (λ c. search rules)

@@ -9,8 +9,8 @@ invariant-loop input₀ image₀ out₀ kinds₀ tally₀ k₀ input image out k
 abbrev decreases-loop : tie.decreases-loop
 decreases-loop input₀ image₀ out₀ kinds₀ tally₀ k₀ input image out kinds tally k = 1000000 - k
 
-pub replay-spec : {M : Type 1} → statement M
-replay-spec =
+pub replay_spec : {M : Type 1} → statement M
+replay_spec =
     tie.close
     (tie.spec
     invariant-loop

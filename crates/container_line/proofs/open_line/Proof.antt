@@ -3,8 +3,8 @@ use Rattle.container_line.proofs.Lines.{opens}
 use Rattle.container_line.proofs.open_line.Statement.{statement}
 use Rattle.container_line.proofs.open_line.Tie as tie
 
-pub open-line-spec : {M : Type 1} → statement M
-open-line-spec =
+pub open_line_spec : {M : Type 1} → statement M
+open_line_spec =
     tie.close
     (tie.spec
     (λ c κs. search rules)

@@ -1,14 +1,14 @@
 use mathlib.Core.Path.{refl}
 use borrow.Author.Rules.{rules}
-use Rattle.text.proofs.Writing.{then-literal}
-use Rattle.container_line.specs.Container.{containerHead}
-use Rattle.container_line.proofs.Lines.{then-word}
+use Rattle.text.proofs.Writing.{then_literal}
+use Rattle.container_line.specs.Container.{container_head}
+use Rattle.container_line.proofs.Lines.{then_word}
 use Rattle.container_line.proofs.put_head.Statement.{statement}
 use Rattle.container_line.proofs.put_head.Tie as tie
 
-pub put-head-spec : {M : Type 1} → statement M
-unfolding containerHead
-put-head-spec =
+pub put_head_spec : {M : Type 1} → statement M
+unfolding container_head
+put_head_spec =
     tie.close
     (tie.spec
     (λ c. search rules)
@@ -18,6 +18,6 @@ put-head-spec =
     (λ c κs. search rules)
     (λ c. search rules)
     (λ c.
-    then-literal _ _ _ _ _ _ c.before.before.before.before.before.before.before.before.before.before.before.before.before.before.put_all_lem.ensures refl
-    (then-word _ _ _ _ _ _ c.before.before.before.before.before.before.before.before.before.before.put_word.ensures
-    (then-word _ _ _ _ _ _ c.before.before.before.before.before.before.put-word2.ensures c.before.before.put-word3.ensures))))
+    then_literal _ _ _ _ _ _ c.before.before.before.before.before.before.before.before.before.before.before.before.before.before.put_all_lem.ensures refl
+    (then_word _ _ _ _ _ _ c.before.before.before.before.before.before.before.before.before.before.put_word.ensures
+    (then_word _ _ _ _ _ _ c.before.before.before.before.before.before.put-word2.ensures c.before.before.put-word3.ensures))))

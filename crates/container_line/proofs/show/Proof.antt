@@ -1,10 +1,10 @@
 use borrow.Author.Rules.{rules}
-use Rattle.calls.proofs.Filling.{filled-short, filled-written}
+use Rattle.calls.proofs.Filling.{filled_short, filled_written}
 use Rattle.container_line.proofs.show.Statement.{statement}
 use Rattle.container_line.proofs.show.Tie as tie
 
-pub show-spec : {M : Type 1} → statement M
-show-spec =
+pub show_spec : {M : Type 1} → statement M
+show_spec =
     tie.close
     (tie.spec
     (λ c. search rules)
@@ -14,9 +14,9 @@ show-spec =
     (λ c. search rules)
     (λ c κs. search rules)
     (λ c. search rules)
-    (λ c. filled-short _ _ c.before.before.before.before.before.put-container.new.0 _ c.before.before.before.before.before.put-container.auto.0 c.before.before.before.before.before.put-container.ensures _ c.before.e.given.1)
+    (λ c. filled_short _ _ c.before.before.before.before.before.put-container.new.0 _ c.before.before.before.before.before.put-container.auto.0 c.before.before.before.before.before.put-container.ensures _ c.before.e.given.1)
     (λ c. search rules)
     (λ c.
-    filled-written _ _ c.before.before.before.before.before.before.before.before.put-container.new.0 _ c.before.before.before.before.before.before.before.before.put-container.auto.0 c.before.before.before.before.before.before.before.before.put-container.ensures _
+    filled_written _ _ c.before.before.before.before.before.before.before.before.put-container.new.0 _ c.before.before.before.before.before.before.before.before.put-container.auto.0 c.before.before.before.before.before.before.before.before.put-container.ensures _
     c.before.before.put-container2.result c.before.before.put-container2.new.0 c.before.before.before.before.enum_told.given.1
     c.before.before.put-container2.ensures))

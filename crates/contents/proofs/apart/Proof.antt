@@ -2,7 +2,7 @@ use mathlib.Core.Path.{◌≡◌}
 use Rattle.lookup.specs.Counted.{after, onto}
 use Rattle.cursor.specs.Left.{run_at}
 use Rattle.cursor.proofs.Through.{rest}
-use Rattle.records.specs.Extent.{extentAt}
+use Rattle.records.specs.Extent.{extent_at}
 use Rattle.lists.specs.Lists.{list_of}
 use Rattle.lists.proofs.Reading.{reading}
 use Rattle.extents.specs.Extents.{apart}
@@ -13,14 +13,14 @@ use Rattle.contents.proofs.apart.Tie as tie
 
 abbrev invariant-loop : tie.invariant-loop
 invariant-loop image q keys ruling₀ last₀ s₀ i₀ ruling last s i =
-    reading (extentAt q.keys.reader image) (ordering (ruled ruling) last) (run_at image q s i)
-    ≡ (onto (list_of (extentAt q.keys.reader image) (run_at image q s₀ i₀)) λ es t. after t (apart es))
+    reading (extent_at q.keys.reader image) (ordering (ruled ruling) last) (run_at image q s i)
+    ≡ (onto (list_of (extent_at q.keys.reader image) (run_at image q s₀ i₀)) λ es t. after t (apart es))
 
 abbrev decreases-loop : tie.decreases-loop
 decreases-loop image q keys ruling₀ last₀ s₀ i₀ ruling last s i = rest image q s i
 
-pub apart-spec : {M : Type 1} → statement M
-apart-spec =
+pub apart_spec : {M : Type 1} → statement M
+apart_spec =
     tie.close
     (tie.spec
     invariant-loop

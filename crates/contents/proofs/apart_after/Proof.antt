@@ -3,8 +3,8 @@ use Rattle.contents.proofs.Laws.{all}
 use Rattle.contents.proofs.apart_after.Statement.{statement}
 use Rattle.contents.proofs.apart_after.Tie as tie
 
-pub apart-after-spec : {M : Type 1} → statement M
-apart-after-spec =
+pub apart_after_spec : {M : Type 1} → statement M
+apart_after_spec =
     tie.close
     (tie.spec
     (λ c. search rules)

@@ -3,8 +3,8 @@ use borrow.Author.Rules.{rules}
 use Rattle.contents.proofs.settle_whole.Statement.{statement}
 use Rattle.contents.proofs.settle_whole.Tie as tie
 
-pub settle-whole-spec : {M : Type 1} → statement M
-settle-whole-spec =
+pub settle_whole_spec : {M : Type 1} → statement M
+settle_whole_spec =
     tie.close
     (tie.spec
     (λ c. search rules)

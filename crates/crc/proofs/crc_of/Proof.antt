@@ -2,19 +2,19 @@
 use Prim.Native.Nat.{◌-◌, ◌≤◌}
 use mathlib.Core.Path.{◌≡◌}
 use lib.ListN.{length, drop}
-use Rattle.crc.specs.Tabled.{crcBy}
+use Rattle.crc.specs.Tabled.{crc_by}
 use Rattle.crc.proofs.Laws.{turns}
 use Rattle.crc.proofs.crc_of.Statement.{statement}
 use Rattle.crc.proofs.crc_of.Tie as tie
 
 abbrev invariant-loop : tie.invariant-loop
-invariant-loop table register b c₀ i₀ c i = (256 ≤ length table) × (i ≤ length b) × (crcBy table c (drop i b) ≡ crcBy table register b)
+invariant-loop table register b c₀ i₀ c i = (256 ≤ length table) × (i ≤ length b) × (crc_by table c (drop i b) ≡ crc_by table register b)
 
 abbrev decreases-loop : tie.decreases-loop
 decreases-loop table register b c₀ i₀ c i = length b - i
 
-pub crc-of-spec : {M : Type 1} → statement M
-crc-of-spec =
+pub crc_of_spec : {M : Type 1} → statement M
+crc_of_spec =
     tie.close
     (tie.spec
     invariant-loop

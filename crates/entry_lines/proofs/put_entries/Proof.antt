@@ -7,9 +7,9 @@ use Rattle.cursor.specs.Left.{run_at}
 use Rattle.cursor.proofs.Through.{rest}
 use Rattle.records.specs.Directory.{entry_at}
 use Rattle.lists.specs.Inner.{readable}
-use Rattle.lists.proofs.Turns.{seens, entry-one, entry-refused}
+use Rattle.lists.proofs.Turns.{seens, entry_one, entry_refused}
 use Rattle.entry_lines.specs.Entries.{lines_of, fitting}
-use Rattle.entry_lines.proofs.Fitting.{writes, walks, lines-over, lines-no, lines-full, lines_next, lines-done}
+use Rattle.entry_lines.proofs.Fitting.{writes, walks, lines_over, lines_no, lines_full, lines_next, lines_done}
 use Rattle.entry_lines.proofs.put_entries.Statement.{statement}
 use Rattle.entry_lines.proofs.put_entries.Tie as tie
 
@@ -21,8 +21,8 @@ invariant-loop out₀ room image id place q keys reader n₀ left₀ s₀ i₀ o
 abbrev decreases-loop : tie.decreases-loop
 decreases-loop out₀ room image id place q keys reader n₀ left₀ s₀ i₀ out n left s i = rest image q s i
 
-pub put-entries-spec : {M : Type 1} → statement M
-put-entries-spec =
+pub put_entries_spec : {M : Type 1} → statement M
+put_entries_spec =
     tie.close
     (tie.spec
     invariant-loop
@@ -32,20 +32,20 @@ put-entries-spec =
     (λ c κs. search walks)
     (λ c. search walks)
     (λ c. search walks)
-    (λ c. lines-done c.before.before.before.before.before.before.before.before.before.args.image.now c.before.before.before.before.before.before.before.before.before.args.v _ c.before.before.before.before.before.before.before.before.before.args.place _ _ c.before.before.before.before.before.before.before.before.before.args.start c.before.before.before.before.before.before.before.before.before.args.out.now _ c.before.before.before.before.before.before.search.ensures (lines-over _ _ _ _ _ _ _ _ _ _ c.before.before.before.loop.invariant.0 _ c.before.before.entry_in.ensures (search seens)))
+    (λ c. lines_done c.before.before.before.before.before.before.before.before.before.args.image.now c.before.before.before.before.before.before.before.before.before.args.v _ c.before.before.before.before.before.before.before.before.before.args.place _ _ c.before.before.before.before.before.before.before.before.before.args.start c.before.before.before.before.before.before.before.before.before.args.out.now _ c.before.before.before.before.before.before.search.ensures (lines_over _ _ _ _ _ _ _ _ _ _ c.before.before.before.loop.invariant.0 _ c.before.before.entry_in.ensures (search seens)))
     (λ c. search walks)
     (λ c. search walks)
-    (λ c. lines-done c.before.before.before.before.before.before.before.before.before.args.image.now c.before.before.before.before.before.before.before.before.before.args.v _ c.before.before.before.before.before.before.before.before.before.args.place _ _ c.before.before.before.before.before.before.before.before.before.args.start c.before.before.before.before.before.before.before.before.before.args.out.now _ c.before.before.before.before.before.before.search.ensures (lines-no _ _ _ _ _ _ _ _ _ _ c.before.before.before.loop.invariant.0 _ c.before.before.entry_in.ensures _ (entry-refused _ _ c.enum-told2.given.1)))
-    (λ c. search walks)
-    (λ c κs. search walks)
-    (λ c. search walks)
-    (λ c. search walks)
+    (λ c. lines_done c.before.before.before.before.before.before.before.before.before.args.image.now c.before.before.before.before.before.before.before.before.before.args.v _ c.before.before.before.before.before.before.before.before.before.args.place _ _ c.before.before.before.before.before.before.before.before.before.args.start c.before.before.before.before.before.before.before.before.before.args.out.now _ c.before.before.before.before.before.before.search.ensures (lines_no _ _ _ _ _ _ _ _ _ _ c.before.before.before.loop.invariant.0 _ c.before.before.entry_in.ensures _ (entry_refused _ _ c.enum-told2.given.1)))
     (λ c. search walks)
     (λ c κs. search walks)
     (λ c. search walks)
     (λ c. search walks)
-    (λ c. lines-done c.before.before.before.before.before.before.before.before.before.before.before.before.before.before.before.before.args.image.now c.before.before.before.before.before.before.before.before.before.before.before.before.before.before.before.before.args.v _ c.before.before.before.before.before.before.before.before.before.before.before.before.before.before.before.before.args.place _ _ c.before.before.before.before.before.before.before.before.before.before.before.before.before.before.before.before.args.start c.before.before.before.before.before.before.before.before.before.before.before.before.before.before.before.before.args.out.now _ c.before.before.before.before.before.before.before.before.before.before.before.before.before.search.ensures (lines-full _ _ _ _ _ _ _ _ _ _ c.before.before.before.before.before.before.before.before.before.before.loop.invariant.0 _ c.before.before.before.before.before.before.before.before.before.entry_in.ensures _ _ (entry-one _ _ _ c.before.before.before.before.before.before.before.e.given.1) c.before.before.before.before.before.before.before.before.before.before.loop.invariant.1 _ _ c.before.before.before.before.put_next.ensures _ c.enum-told4.given.1))
     (λ c. search walks)
     (λ c κs. search walks)
     (λ c. search walks)
-    (λ c. (lines_next _ _ _ _ _ _ _ _ _ _ c.before.before.before.before.before.before.before.before.before.before.before.before.loop.invariant.0 _ c.before.before.before.before.before.before.before.before.before.before.before.entry_in.ensures _ _ (entry-one _ _ _ c.before.before.before.before.before.before.before.before.before.e.given.1) c.before.before.before.before.before.before.before.before.before.before.before.before.loop.invariant.1 _ _ c.before.before.before.before.before.before.put_next.ensures _ _ c.before.before.m.given.1 c.fewer.ensures, search walks, search walks)))
+    (λ c. search walks)
+    (λ c. lines_done c.before.before.before.before.before.before.before.before.before.before.before.before.before.before.before.before.args.image.now c.before.before.before.before.before.before.before.before.before.before.before.before.before.before.before.before.args.v _ c.before.before.before.before.before.before.before.before.before.before.before.before.before.before.before.before.args.place _ _ c.before.before.before.before.before.before.before.before.before.before.before.before.before.before.before.before.args.start c.before.before.before.before.before.before.before.before.before.before.before.before.before.before.before.before.args.out.now _ c.before.before.before.before.before.before.before.before.before.before.before.before.before.search.ensures (lines_full _ _ _ _ _ _ _ _ _ _ c.before.before.before.before.before.before.before.before.before.before.loop.invariant.0 _ c.before.before.before.before.before.before.before.before.before.entry_in.ensures _ _ (entry_one _ _ _ c.before.before.before.before.before.before.before.e.given.1) c.before.before.before.before.before.before.before.before.before.before.loop.invariant.1 _ _ c.before.before.before.before.put_next.ensures _ c.enum-told4.given.1))
+    (λ c. search walks)
+    (λ c κs. search walks)
+    (λ c. search walks)
+    (λ c. (lines_next _ _ _ _ _ _ _ _ _ _ c.before.before.before.before.before.before.before.before.before.before.before.before.loop.invariant.0 _ c.before.before.before.before.before.before.before.before.before.before.before.entry_in.ensures _ _ (entry_one _ _ _ c.before.before.before.before.before.before.before.before.before.e.given.1) c.before.before.before.before.before.before.before.before.before.before.before.before.loop.invariant.1 _ _ c.before.before.before.before.before.before.put_next.ensures _ _ c.before.before.m.given.1 c.fewer.ensures, search walks, search walks)))

@@ -1,10 +1,10 @@
-use Rattle.entry_lines.proofs.Fitting.{passes, next-direct}
+use Rattle.entry_lines.proofs.Fitting.{passes, next_direct}
 use borrow.Author.Rules.{rules}
 use Rattle.entry_lines.proofs.put_next.Statement.{statement}
 use Rattle.entry_lines.proofs.put_next.Tie as tie
 
-pub put-next-spec : {M : Type 1} → statement M
-put-next-spec =
+pub put_next_spec : {M : Type 1} → statement M
+put_next_spec =
     tie.close
     (tie.spec
     (λ c. search passes)
@@ -14,7 +14,7 @@ put-next-spec =
     (λ c. search rules)
     (λ c κs. search rules)
     (λ c. search rules)
-    (λ c. next-direct _ _ _ c.before.before.before.before.before.before.before.before.before.before.args.e _ _ _ _ c.before.before.put-entry-line.result _ (search rules) (search rules) (search rules) (search rules) c.before.before.before.before.before.before.before.before.before.before.requires (search rules) c.before.before.before.before.before.entry-name.ensures (search rules) c.before.before.put-entry-line.ensures)
+    (λ c. next_direct _ _ _ c.before.before.before.before.before.before.before.before.before.before.args.e _ _ _ _ c.before.before.put-entry-line.result _ (search rules) (search rules) (search rules) (search rules) c.before.before.before.before.before.before.before.before.before.before.requires (search rules) c.before.before.before.before.before.entry-name.ensures (search rules) c.before.before.put-entry-line.ensures)
     (λ c. search rules)
     (λ c. search rules)
     (λ c κs. search rules)

@@ -6,11 +6,11 @@ use Rattle.error.specs.declared.Refusal.{Refusal}
 use Rattle.error.proofs.number_of.Statement.{statement}
 use Rattle.error.proofs.number_of.Tie as tie
 
-number-told : (e x : Refusal) (n : ℕ) → e ≡ x → n ≡ number_of x → n ≡ number_of e
-number-told e x n q h = rw q h
+number_told : (e x : Refusal) (n : ℕ) → e ≡ x → n ≡ number_of x → n ≡ number_of e
+number_told e x n q h = rw q h
 
-pub number-of-spec : {M : Type 1} → statement M
-number-of-spec =
+pub number_of_spec : {M : Type 1} → statement M
+number_of_spec =
     tie.close
     (tie.spec
     (λ c. search rules)
@@ -31,21 +31,21 @@ number-of-spec =
     (λ c. search rules)
     (λ c. search rules)
     (λ c. search rules)
-    (λ c. search (rules, number-told))
-    (λ c. search (rules, number-told))
-    (λ c. search (rules, number-told))
-    (λ c. search (rules, number-told))
-    (λ c. search (rules, number-told))
-    (λ c. search (rules, number-told))
-    (λ c. search (rules, number-told))
-    (λ c. search (rules, number-told))
-    (λ c. search (rules, number-told))
-    (λ c. search (rules, number-told))
-    (λ c. search (rules, number-told))
-    (λ c. search (rules, number-told))
-    (λ c. search (rules, number-told))
-    (λ c. search (rules, number-told))
-    (λ c. search (rules, number-told))
-    (λ c. search (rules, number-told))
-    (λ c. search (rules, number-told))
-    (λ c. search (rules, number-told)))
+    (λ c. search (rules, number_told))
+    (λ c. search (rules, number_told))
+    (λ c. search (rules, number_told))
+    (λ c. search (rules, number_told))
+    (λ c. search (rules, number_told))
+    (λ c. search (rules, number_told))
+    (λ c. search (rules, number_told))
+    (λ c. search (rules, number_told))
+    (λ c. search (rules, number_told))
+    (λ c. search (rules, number_told))
+    (λ c. search (rules, number_told))
+    (λ c. search (rules, number_told))
+    (λ c. search (rules, number_told))
+    (λ c. search (rules, number_told))
+    (λ c. search (rules, number_told))
+    (λ c. search (rules, number_told))
+    (λ c. search (rules, number_told))
+    (λ c. search (rules, number_told)))

@@ -4,9 +4,9 @@ use Rattle.geometry.proofs.Laws.{all, parts}
 use Rattle.geometry.proofs.first_bytes.Statement.{statement}
 use Rattle.geometry.proofs.first_bytes.Tie as tie
 
-pub first-bytes-spec : {M : Type 1} → statement M
+pub first_bytes_spec : {M : Type 1} → statement M
 unfolding size_at
-first-bytes-spec =
+first_bytes_spec =
     tie.close
     (tie.spec
     (λ c κs. search rules)

@@ -1,12 +1,12 @@
 use borrow.Author.Rules.{rules}
-use Rattle.geometry.specs.BlockZero.{geometryAt}
+use Rattle.geometry.specs.BlockZero.{geometry_at}
 use Rattle.geometry.proofs.Laws.{all, parts}
 use Rattle.geometry.proofs.geometry_at.Statement.{statement}
 use Rattle.geometry.proofs.geometry_at.Tie as tie
 
-pub geometry-at-spec : {M : Type 1} → statement M
-unfolding geometryAt
-geometry-at-spec =
+pub geometry_at_spec : {M : Type 1} → statement M
+unfolding geometry_at
+geometry_at_spec =
     tie.close
     (tie.spec
     (λ c κs. search rules)

@@ -3,8 +3,8 @@ use Rattle.geometry.proofs.Laws.{all}
 use Rattle.geometry.proofs.has_magic.Statement.{statement}
 use Rattle.geometry.proofs.has_magic.Tie as tie
 
-pub has-magic-spec : {M : Type 1} → statement M
-has-magic-spec =
+pub has_magic_spec : {M : Type 1} → statement M
+has_magic_spec =
     tie.close
     (tie.spec
     (λ c κs. search rules)

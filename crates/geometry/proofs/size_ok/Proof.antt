@@ -1,11 +1,11 @@
-use Rattle.geometry.specs.BlockZero.{sizeOk}
+use Rattle.geometry.specs.BlockZero.{size_ok}
 use Rattle.geometry.proofs.Laws.{all}
 use Rattle.geometry.proofs.size_ok.Statement.{statement}
 use Rattle.geometry.proofs.size_ok.Tie as tie
 
-pub size-ok-spec : {M : Type 1} → statement M
-unfolding sizeOk
-size-ok-spec =
+pub size_ok_spec : {M : Type 1} → statement M
+unfolding size_ok
+size_ok_spec =
     tie.close
     (tie.spec
     (λ c. search all)

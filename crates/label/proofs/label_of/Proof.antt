@@ -4,9 +4,9 @@ use Rattle.label.proofs.Laws.{all}
 use Rattle.label.proofs.label_of.Statement.{statement}
 use Rattle.label.proofs.label_of.Tie as tie
 
-pub label-of-spec : {M : Type 1} → statement M
+pub label_of_spec : {M : Type 1} → statement M
 unfolding label_of
-label-of-spec =
+label_of_spec =
     tie.close
     (tie.spec
     (λ c κs. search rules)

@@ -5,15 +5,15 @@ use lib.ListN.{length}
 use borrow.Author.Rules.{rules}
 use Rattle.crc.specs.Crc.{crc}
 use Rattle.crc.specs.Tabled.{TableRule}
-use Rattle.unicode.specs.Keys.{canonical}
-use Rattle.unicode.specs.Stream.{letters}
+use Rattle.unicode_forms.specs.Keys.{canonical}
+use Rattle.unicode_forms.specs.Stream.{letters}
 use Rattle.keys.specs.Told.{left_of}
 use Rattle.name_hash.specs.Hash.{castagnoli, utf32}
-use Rattle.name_hash.proofs.Laws.{runs-start, runs-end, runs-starter, runs-marks, starter-less, marks-fewer}
+use Rattle.name_hash.proofs.Laws.{runs_start, runs_end, runs_starter, runs_marks, starter_less, marks_fewer}
 use Rattle.name_hash.proofs.feed_all.Statement.{statement}
 use Rattle.name_hash.proofs.feed_all.Tie as tie
 
-ruleset turns = (rules, runs-start, runs-end, runs-starter, runs-marks, starter-less, marks-fewer)
+ruleset turns = (rules, runs_start, runs_end, runs_starter, runs_marks, starter_less, marks_fewer)
 
 abbrev invariant-loop : tie.invariant-loop
 invariant-loop words b caseless c₀ cursor₀ c cursor =
@@ -22,8 +22,8 @@ invariant-loop words b caseless c₀ cursor₀ c cursor =
 abbrev decreases-loop : tie.decreases-loop
 decreases-loop words b caseless c₀ cursor₀ c cursor = length (left_of caseless b cursor)
 
-pub feed-all-spec : {M : Type 1} → statement M
-feed-all-spec =
+pub feed_all_spec : {M : Type 1} → statement M
+feed_all_spec =
     tie.close
     (tie.spec
     invariant-loop

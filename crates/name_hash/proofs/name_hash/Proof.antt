@@ -1,13 +1,13 @@
 use borrow.Author.Rules.{rules}
-use Rattle.bytes.proofs.Laws.{answers}
-use Rattle.name_hash.proofs.Laws.{hash-refused, hash-given}
+use Rattle.byte_fields.proofs.Laws.{answers}
+use Rattle.name_hash.proofs.Laws.{hash_refused, hash_given}
 use Rattle.name_hash.proofs.name_hash.Statement.{statement}
 use Rattle.name_hash.proofs.name_hash.Tie as tie
 
-ruleset turns = (rules, answers, hash-refused, hash-given)
+ruleset turns = (rules, answers, hash_refused, hash_given)
 
-pub name-hash-spec : {M : Type 1} → statement M
-name-hash-spec =
+pub name_hash_spec : {M : Type 1} → statement M
+name_hash_spec =
     tie.close
     (tie.spec
     (λ c κs. search turns)

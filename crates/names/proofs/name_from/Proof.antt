@@ -3,8 +3,8 @@ use Rattle.names.proofs.Laws.{names}
 use Rattle.names.proofs.name_from.Statement.{statement}
 use Rattle.names.proofs.name_from.Tie as tie
 
-pub name-from-spec : {M : Type 1} → statement M
-name-from-spec =
+pub name_from_spec : {M : Type 1} → statement M
+name_from_spec =
     tie.close
     (tie.spec
     (λ c κs. search rules)

@@ -11,8 +11,8 @@ invariant-loop b n₀ n = (n ≤ length b) × Passed b n
 abbrev decreases-loop : tie.decreases-loop
 decreases-loop b n₀ n = length b - n
 
-pub plain-spec : {M : Type 1} → statement M
-plain-spec =
+pub plain_spec : {M : Type 1} → statement M
+plain_spec =
     tie.close
     (tie.spec
     invariant-loop

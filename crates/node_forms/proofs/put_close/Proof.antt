@@ -3,8 +3,8 @@ use Rattle.node_forms.proofs.Laws.{nodes}
 use Rattle.node_forms.proofs.put_close.Statement.{statement}
 use Rattle.node_forms.proofs.put_close.Tie as tie
 
-pub put-close-spec : {M : Type 1} → statement M
-put-close-spec =
+pub put_close_spec : {M : Type 1} → statement M
+put_close_spec =
     tie.close
     (tie.spec
     (λ c. search rules)

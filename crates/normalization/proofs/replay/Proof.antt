@@ -12,8 +12,8 @@ invariant-loop input₀ tally₀ k₀ input tally k = (k ≤ 1000000) × (length
 abbrev decreases-loop : tie.decreases-loop
 decreases-loop input₀ tally₀ k₀ input tally k = 1000000 - k
 
-pub replay-spec : {M : Type 1} → statement M
-replay-spec =
+pub replay_spec : {M : Type 1} → statement M
+replay_spec =
     tie.close
     (tie.spec
     invariant-loop

@@ -4,9 +4,9 @@ use Rattle.omap.proofs.Laws.{all, parts}
 use Rattle.omap.proofs.layout_of.Statement.{statement}
 use Rattle.omap.proofs.layout_of.Tie as tie
 
-pub layout-of-spec : {M : Type 1} → statement M
+pub layout_of_spec : {M : Type 1} → statement M
 unfolding layout_of
-layout-of-spec =
+layout_of_spec =
     tie.close
     (tie.spec
     (λ c κs. search rules)

@@ -1,11 +1,11 @@
 use borrow.Author.Rules.{rules}
-use Rattle.omap.specs.Load.{mapAt}
+use Rattle.omap.specs.Load.{map_at}
 use Rattle.omap.proofs.Laws.{all}
 use Rattle.omap.proofs.load.Statement.{statement}
 use Rattle.omap.proofs.load.Tie as tie
 
 pub load_spec : {M : Type 1} → statement M
-unfolding mapAt
+unfolding map_at
 load_spec =
     tie.close
     (tie.spec

@@ -3,9 +3,9 @@ use Rattle.omap.proofs.Laws.{all}
 use Rattle.omap.proofs.physical_info.Statement.{statement}
 use Rattle.omap.proofs.physical_info.Tie as tie
 
-pub physical-info-spec : {M : Type 1} → statement M
+pub physical_info_spec : {M : Type 1} → statement M
 unfolding physical
-physical-info-spec =
+physical_info_spec =
     tie.close
     (tie.spec
     (λ c. search all)

@@ -1,12 +1,12 @@
 use borrow.Author.Rules.{rules}
-use Rattle.omap.specs.Load.{mapOf}
+use Rattle.omap.specs.Load.{map_of}
 use Rattle.omap.proofs.Laws.{all}
 use Rattle.omap.proofs.with_root.Statement.{statement}
 use Rattle.omap.proofs.with_root.Tie as tie
 
-pub with-root-spec : {M : Type 1} → statement M
-unfolding mapOf
-with-root-spec =
+pub with_root_spec : {M : Type 1} → statement M
+unfolding map_of
+with_root_spec =
     tie.close
     (tie.spec
     (λ c κs. search rules)

@@ -3,8 +3,8 @@ use Rattle.part_line.proofs.Parts.{parts}
 use Rattle.part_line.proofs.part_text.Statement.{statement}
 use Rattle.part_line.proofs.part_text.Tie as tie
 
-pub part-text-spec : {M : Type 1} → statement M
-part-text-spec =
+pub part_text_spec : {M : Type 1} → statement M
+part_text_spec =
     tie.close
     (tie.spec
     (λ c κs. search rules)

@@ -6,8 +6,8 @@ use native.Mathlib.Omega.{arith}
 use Rattle.replay.proofs.reads_as.Statement.{statement}
 use Rattle.replay.proofs.reads_as.Tie as tie
 
-pub reads-as-spec : {M : Type 1} → statement M
-reads-as-spec =
+pub reads_as_spec : {M : Type 1} → statement M
+reads_as_spec =
     tie.close
     (tie.spec
     (λ c. sym (length-take-le _ _ (omega arith)))

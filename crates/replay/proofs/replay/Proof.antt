@@ -12,8 +12,8 @@ invariant-loop file tally₀ number₀ at₀ tally number at = 0 ≤ at
 abbrev decreases-loop : tie.decreases-loop
 decreases-loop file tally₀ number₀ at₀ tally number at = length file - at
 
-pub replay-spec : {M : Type 1} → statement M
-replay-spec =
+pub replay_spec : {M : Type 1} → statement M
+replay_spec =
     tie.close
     (tie.spec
     invariant-loop

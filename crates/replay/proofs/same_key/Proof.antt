@@ -6,8 +6,8 @@ use native.Mathlib.Omega.{arith}
 use Rattle.replay.proofs.same_key.Statement.{statement}
 use Rattle.replay.proofs.same_key.Tie as tie
 
-pub same-key-spec : {M : Type 1} → statement M
-same-key-spec =
+pub same_key_spec : {M : Type 1} → statement M
+same_key_spec =
     tie.close
     (tie.spec
     (λ c. sym (length-take-le _ _ (omega arith)))

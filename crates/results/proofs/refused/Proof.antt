@@ -3,8 +3,8 @@ use Rattle.results.proofs.Results.{negated}
 use Rattle.results.proofs.refused.Statement.{statement}
 use Rattle.results.proofs.refused.Tie as tie
 
-pub refused-spec : {M : Type 1} → statement M
-refused-spec =
+pub refused_spec : {M : Type 1} → statement M
+refused_spec =
     tie.close
     (tie.spec
     (λ c κs. search rules)

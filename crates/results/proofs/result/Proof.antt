@@ -3,8 +3,8 @@ use Rattle.results.proofs.Results.{results}
 use Rattle.results.proofs.result.Statement.{statement}
 use Rattle.results.proofs.result.Tie as tie
 
-pub result-spec : {M : Type 1} → statement M
-result-spec =
+pub result_spec : {M : Type 1} → statement M
+result_spec =
     tie.close
     (tie.spec
     (λ c. search rules)

@@ -5,7 +5,7 @@ use mathlib.Core.List.{[]}
 use lib.ListN.{length, drop}
 use native.Mathlib.Omega.{arith}
 use borrow.Author.Rules.{rules}
-use Rattle.text.specs.Output.{outputOf, puts}
+use Rattle.text.specs.Output.{output_of, puts}
 use Rattle.text.specs.Words.{pairs}
 use Rattle.text.proofs.Writing.{stopped}
 use Rattle.text.proofs.Loops.{pairs_end, pairs_next}
@@ -13,15 +13,15 @@ use Rattle.text.proofs.put_each_hex.Statement.{statement}
 use Rattle.text.proofs.put_each_hex.Tie as tie
 
 abbrev invariant-loop : tie.invariant-loop
-invariant-loop out₀ room b q₀ i₀ out q i = (i ≤ length b) × (puts room (pairs (drop i b) []) (outputOf q out) ≡ puts room (pairs b []) (outputOf q₀ out₀)) × (length out ≡ length out₀)
+invariant-loop out₀ room b q₀ i₀ out q i = (i ≤ length b) × (puts room (pairs (drop i b) []) (output_of q out) ≡ puts room (pairs b []) (output_of q₀ out₀)) × (length out ≡ length out₀)
 
 abbrev decreases-loop : tie.decreases-loop
 decreases-loop out₀ room b q₀ i₀ out q i = length b - i
 
 ruleset all = (rules, stopped, pairs_end, pairs_next)
 
-pub put-each-hex-spec : {M : Type 1} → statement M
-put-each-hex-spec =
+pub put_each_hex_spec : {M : Type 1} → statement M
+put_each_hex_spec =
     tie.close
     (tie.spec
     invariant-loop

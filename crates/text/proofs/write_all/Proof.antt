@@ -2,7 +2,7 @@ use Prim.Native.Nat.{◌-◌, ◌≤◌}
 use mathlib.Core.Path.{◌≡◌}
 use lib.ListN.{length}
 use borrow.Author.Rules.{rules}
-use Rattle.text.proofs.Loops.{Storing, store-start, store-next, store-end}
+use Rattle.text.proofs.Loops.{Storing, store_start, store_next, store_end}
 use Rattle.text.proofs.write_all.Statement.{statement}
 use Rattle.text.proofs.write_all.Tie as tie
 
@@ -12,10 +12,10 @@ invariant-loop out₀ at text i₀ out i = (i ≤ length text) × Storing text o
 abbrev decreases-loop : tie.decreases-loop
 decreases-loop out₀ at text i₀ out i = length text - i
 
-ruleset all = (rules, store-start, store-next, store-end)
+ruleset all = (rules, store_start, store_next, store_end)
 
-pub write-all-spec : {M : Type 1} → statement M
-write-all-spec =
+pub write_all_spec : {M : Type 1} → statement M
+write_all_spec =
     tie.close
     (tie.spec
     invariant-loop

@@ -3,7 +3,7 @@ use mathlib.Core.Path.{◌≡◌}
 use lib.ListN.{length}
 use native.Mathlib.Omega.{arith}
 use borrow.Author.Rules.{rules}
-use Rattle.text.proofs.Loops.{Hexed, hex-start, hex-next, hex-end, second-lies}
+use Rattle.text.proofs.Loops.{Hexed, hex_start, hex_next, hex_end, second_lies}
 use Rattle.text.proofs.write_hex.Statement.{statement}
 use Rattle.text.proofs.write_hex.Tie as tie
 
@@ -13,10 +13,10 @@ invariant-loop out₀ at b i₀ out i = (i ≤ length b) × Hexed b out₀ at ou
 abbrev decreases-loop : tie.decreases-loop
 decreases-loop out₀ at b i₀ out i = length b - i
 
-ruleset all = (rules, hex-start, hex-next, hex-end, second-lies)
+ruleset all = (rules, hex_start, hex_next, hex_end, second_lies)
 
-pub write-hex-spec : {M : Type 1} → statement M
-write-hex-spec =
+pub write_hex_spec : {M : Type 1} → statement M
+write_hex_spec =
     tie.close
     (tie.spec
     invariant-loop

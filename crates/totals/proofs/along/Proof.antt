@@ -3,21 +3,21 @@ use Prim.Native.Nat.{◌+◌, ◌-◌}
 use mathlib.Core.Path.{◌≡◌, refl}
 use lib.ListN.{length, drop}
 use borrow.Author.Rules.{rules}
-use Rattle.totals.specs.Totals.{lineLength}
-use Rattle.totals.proofs.Turns.{along-next}
+use Rattle.totals.specs.Totals.{line_length}
+use Rattle.totals.proofs.Turns.{along_next}
 use Rattle.totals.proofs.along.Statement.{statement}
 use Rattle.totals.proofs.along.Tie as tie
 
 abbrev invariant-loop : tie.invariant-loop
-invariant-loop text at i₀ i = i + lineLength (drop i text) ≡ at + lineLength (drop at text)
+invariant-loop text at i₀ i = i + line_length (drop i text) ≡ at + line_length (drop at text)
 
 abbrev decreases-loop : tie.decreases-loop
 decreases-loop text at i₀ i = length text - i
 
 ruleset all = (rules, refl)
 
-pub along-spec : {M : Type 1} → statement M
-along-spec =
+pub along_spec : {M : Type 1} → statement M
+along_spec =
     tie.close
     (tie.spec
     invariant-loop
@@ -33,5 +33,5 @@ along-spec =
     (λ c. search all)
     (λ c. search all)
     (λ c. search all)
-    (λ c. along-next c.before.before.before.before.before.before.before.args.text.now _ _ c.before.before.before.before.before.loop.invariant c.before.before.before.before.loop-test.true c.before.before.before.if1.false _ c.before.has-lf.ensures c.if2.false)
+    (λ c. along_next c.before.before.before.before.before.before.before.args.text.now _ _ c.before.before.before.before.before.loop.invariant c.before.before.before.before.loop-test.true c.before.before.before.if1.false _ c.before.has-lf.ensures c.if2.false)
     (λ c. search all))

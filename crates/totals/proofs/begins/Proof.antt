@@ -4,7 +4,7 @@ use mathlib.Core.Path.{◌≡◌, refl}
 use lib.ListN.{length, drop}
 use borrow.Author.Rules.{rules}
 use Rattle.totals.specs.Totals.{begins}
-use Rattle.totals.proofs.Turns.{begins-done, begins-short, begins-stops, begins-goes}
+use Rattle.totals.proofs.Turns.{begins_done, begins_short, begins_stops, begins_goes}
 use Rattle.totals.proofs.begins.Statement.{statement}
 use Rattle.totals.proofs.begins.Tie as tie
 
@@ -14,10 +14,10 @@ invariant-loop line start i₀ i = begins (drop i start) (drop i line) ≡ begin
 abbrev decreases-loop : tie.decreases-loop
 decreases-loop line start i₀ i = length start - i
 
-ruleset all = (rules, refl, begins-done, begins-short, begins-stops, begins-goes)
+ruleset all = (rules, refl, begins_done, begins_short, begins_stops, begins_goes)
 
-pub begins-spec : {M : Type 1} → statement M
-begins-spec =
+pub begins_spec : {M : Type 1} → statement M
+begins_spec =
     tie.close
     (tie.spec
     invariant-loop

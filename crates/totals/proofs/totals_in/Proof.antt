@@ -3,26 +3,26 @@ use Prim.Native.Nat.{◌-◌}
 use mathlib.Core.Path.{◌≡◌}
 use lib.ListN.{length, drop}
 use borrow.Author.Rules.{rules}
-use Rattle.totals.specs.Totals.{plus, totalsOf}
-use Rattle.totals.proofs.Turns.{Few, few-none, totals-start, totals-over, end_after, end-within, end_fits, end-less, few-next, nodes-fit, bytes_fit, attrs-fit, totals-next}
+use Rattle.totals.specs.Totals.{plus, totals_of}
+use Rattle.totals.proofs.Turns.{Few, few_none, totals_start, totals_over, end_after, end_within, end_fits, end_less, few_next, nodes_fit, bytes_fit, attrs_fit, totals_next}
 use Rattle.totals.proofs.totals_in.Statement.{statement}
 use Rattle.totals.proofs.totals_in.Tie as tie
 
 abbrev invariant-loop : tie.invariant-loop
-invariant-loop text t₀ at₀ t at = (plus t (totalsOf (drop at text)) ≡ totalsOf text) × Few at t
+invariant-loop text t₀ at₀ t at = (plus t (totals_of (drop at text)) ≡ totals_of text) × Few at t
 
 abbrev decreases-loop : tie.decreases-loop
 decreases-loop text t₀ at₀ t at = length text - at
 
-ruleset all = (rules, totals-over, end_after, end-within, end_fits, end-less, few-next, nodes-fit, bytes_fit, attrs-fit, totals-next)
+ruleset all = (rules, totals_over, end_after, end_within, end_fits, end_less, few_next, nodes_fit, bytes_fit, attrs_fit, totals_next)
 
-pub totals-in-spec : {M : Type 1} → statement M
-totals-in-spec =
+pub totals_in_spec : {M : Type 1} → statement M
+totals_in_spec =
     tie.close
     (tie.spec
     invariant-loop
     decreases-loop
-    (λ c. (totals-start _, few-none))
+    (λ c. (totals_start _, few_none))
     (λ c κs. search all)
     (λ c. search all)
     (λ c. search all)

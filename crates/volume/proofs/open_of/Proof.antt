@@ -4,9 +4,9 @@ use Rattle.volume.proofs.Laws.{all}
 use Rattle.volume.proofs.open_of.Statement.{statement}
 use Rattle.volume.proofs.open_of.Tie as tie
 
-pub open-of-spec : {M : Type 1} → statement M
+pub open_of_spec : {M : Type 1} → statement M
 unfolding tested_of
-open-of-spec =
+open_of_spec =
     tie.close
     (tie.spec
     (λ c. search all)

@@ -1,12 +1,12 @@
 use borrow.Author.Rules.{rules}
-use Rattle.volume.specs.Open.{volumeOpen}
+use Rattle.volume.specs.Open.{volume_open}
 use Rattle.volume.proofs.Laws.{all}
 use Rattle.volume.proofs.open_volume.Statement.{statement}
 use Rattle.volume.proofs.open_volume.Tie as tie
 
-pub open-volume-spec : {M : Type 1} → statement M
-unfolding volumeOpen
-open-volume-spec =
+pub open_volume_spec : {M : Type 1} → statement M
+unfolding volume_open
+open_volume_spec =
     tie.close
     (tie.spec
     (λ c κs. search rules)

@@ -4,9 +4,9 @@ use Rattle.volume.proofs.Laws.{all}
 use Rattle.volume.proofs.with_address.Statement.{statement}
 use Rattle.volume.proofs.with_address.Tie as tie
 
-pub with-address-spec : {M : Type 1} → statement M
+pub with_address_spec : {M : Type 1} → statement M
 unfolding tree_of
-with-address-spec =
+with_address_spec =
     tie.close
     (tie.spec
     (λ c κs. search rules)

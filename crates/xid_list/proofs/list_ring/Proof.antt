@@ -4,8 +4,8 @@ use Rattle.xid_list.proofs.Lists.{fitting}
 use Rattle.xid_list.proofs.list_ring.Statement.{statement}
 use Rattle.xid_list.proofs.list_ring.Tie as tie
 
-pub list-ring-spec : {M : Type 1} → statement M
-list-ring-spec =
+pub list_ring_spec : {M : Type 1} → statement M
+list_ring_spec =
     tie.close
     (tie.spec
     (λ c κs. search (fitting, most))

@@ -1,12 +1,12 @@
 use borrow.Author.Rules.{rules}
-use Rattle.checkpoints.specs.Numbers.{numbersAt}
+use Rattle.checkpoints.specs.Numbers.{numbers_at}
 use Rattle.xid_list.proofs.Lists.{opening}
 use Rattle.xid_list.proofs.list_xids.Statement.{statement}
 use Rattle.xid_list.proofs.list_xids.Tie as tie
 
-pub list-xids-spec : {M : Type 1} → statement M
-unfolding numbersAt
-list-xids-spec =
+pub list_xids_spec : {M : Type 1} → statement M
+unfolding numbers_at
+list_xids_spec =
     tie.close
     (tie.spec
     (λ c. search opening)

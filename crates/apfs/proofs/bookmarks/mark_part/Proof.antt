@@ -3,8 +3,8 @@ use Rattle.results.proofs.Results.{ends}
 use Rattle.apfs.proofs.bookmarks.mark_part.Statement.{statement}
 use Rattle.apfs.proofs.bookmarks.mark_part.Tie as tie
 
-pub mark-part-spec : {M : Type 1} → statement M
-mark-part-spec =
+pub mark_part_spec : {M : Type 1} → statement M
+mark_part_spec =
     tie.close
     (tie.spec
     (λ c κs. search rules)

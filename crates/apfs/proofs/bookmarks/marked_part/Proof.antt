@@ -3,8 +3,8 @@ use Rattle.results.proofs.Results.{ends}
 use Rattle.apfs.proofs.bookmarks.marked_part.Statement.{statement}
 use Rattle.apfs.proofs.bookmarks.marked_part.Tie as tie
 
-pub marked-part-spec : {M : Type 1} → statement M
-marked-part-spec =
+pub marked_part_spec : {M : Type 1} → statement M
+marked_part_spec =
     tie.close
     (tie.spec
     (λ c κs. search rules)

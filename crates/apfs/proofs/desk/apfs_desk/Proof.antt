@@ -44,7 +44,7 @@ use denote.Triple.Table.{entered, cited}
 use denote.Triple.Walked.{says, Stay, Stays, stay_ref, stay_none, stay_none_slice, gave_slice, walk_of, Goes, AllGo, Goes-none, Goes-ref, Goes-none_slice, Goes-gave_slice, Walks, ends_at, walked, walk_Meets}
 use denote.Triple.Clauses.{ensured, lasts}
 use denote.Exit.{yes}
-use Rattle.desks.specs.Requests.{Request, asked, resultFor, bufferFor, nodesOf}
+use Rattle.desks.specs.Requests.{Request, asked, result_for, buffer_for, nodes_of}
 use Rattle.desks.specs.Desks.{added}
 use Rattle.desks.specs.declared.counts.DeskCounts.{DeskCounts}
 use Rattle.desks.specs.declared.counts.Called.{Called}
@@ -96,8 +96,8 @@ module _ {M : Type 1} {𝓤 : Ura M} (𝓛 : Logic 𝓤) (at_mem : Memory → SP
   more_of : (h : DeskCounts) (d : ℕ) (t : Called) (r : DeskCounts) → ent 𝓤 (ensured 𝓛 more.ended (more.clauses 𝓛 at_mem run) tt (h, (d, (t, tt))) tt r) (fact 𝓤 (r.counts ≡ added h.counts d t.nodes))
   more_of h d t r = ex_e 𝓤 _ (λ ws. snd∗ 𝓤 (sem 𝓛 (lasts more.ended tt (h, (d, (t, tt))) ws)) (fact 𝓤 (r.counts ≡ added h.counts d t.nodes)))
 
-  result-of : (t : Called) (r : ℤ) → ent 𝓤 (ensured 𝓛 result.ended (result.clauses 𝓛 at_mem run) tt (t, tt) tt r) (fact 𝓤 (r ≡ t.result))
-  result-of t r = ex_e 𝓤 _ (λ ws. snd∗ 𝓤 (sem 𝓛 (lasts result.ended tt (t, tt) ws)) (fact 𝓤 (r ≡ t.result)))
+  result_of_lem : (t : Called) (r : ℤ) → ent 𝓤 (ensured 𝓛 result.ended (result.clauses 𝓛 at_mem run) tt (t, tt) tt r) (fact 𝓤 (r ≡ t.result))
+  result_of_lem t r = ex_e 𝓤 _ (λ ws. snd∗ 𝓤 (sem 𝓛 (lasts result.ended tt (t, tt) ws)) (fact 𝓤 (r ≡ t.result)))
 
 module _ {M : Type 1} {𝓤 : Ura M} (𝓛 : Logic 𝓤) (at_mem : Memory → SProp 𝓤) (run : Routine → Fun 𝓤) (κ₀ κ₁ κ₂ κ₃ : Lft) (q₀ q₁ q₂ q₃ : Share)
     (k₀ o₀ : ℕ) (γ : GName) (h : DeskCounts) (desk what : ℕ) (s : MutBor (List ℕ)) (numbered xid volume a b c : ℕ) (p : MutBor (List ℕ)) (k₁ o₁ : ℕ) (δ : GName) (ys : List ℕ) where
@@ -154,7 +154,7 @@ module _ {M : Type 1} {𝓤 : Ura M} (𝓛 : Logic 𝓤) (at_mem : Memory → SP
   abbrev Post : Val → SProp 𝓤
   Post = (walk_of 𝓛 f.ended stayed (f.clauses 𝓛 at_mem run)).post (((κ₀, (κ₁, (κ₂, (κ₃, tt)))), (q₀, (q₁, (q₂, (q₃, tt)))), tt, x, at), tt)
 
-  exits : Fit → (r : DeskCounts) (u : ℤ) (z : Val) (zs : List ℕ) → (u ≡ resultFor Q ys) × (zs ≡ bufferFor Q ys) × (r.counts ≡ added h.counts desk (nodesOf Q)) → length zs ≡ length ys →
+  exits : Fit → (r : DeskCounts) (u : ℤ) (z : Val) (zs : List ℕ) → (u ≡ result_for Q ys) × (zs ≡ buffer_for Q ys) × (r.counts ≡ added h.counts desk (nodes_of Q)) → length zs ≡ length ys →
       ent 𝓤 (⋆ 𝓛 (‵ (fobs γ ((T.the_row).coded.code r)) ∷ ‵ (fbor κ₀ (Body (mem T.the_row) k₀ o₀ γ)) ∷ ‵ (flft κ₀ q₀) ∷ Tokens ∷ ‵ Image ∷ ‵ Path ∷ ‵ (finally u8 δ zs) ∷ ‵ (i64.own_val u (z ∷ [])) ∷ [])) (Post z)
   exits fs r u z zs e l =
       qed 𝓛 (‵ (fobs γ ((T.the_row).coded.code r)) ∷ ‵ (fbor κ₀ (Body (mem T.the_row) k₀ o₀ γ)) ∷ ‵ (flft κ₀ q₀) ∷ Tokens ∷ ‵ Image ∷ ‵ Path ∷ ‵ (finally u8 δ zs) ∷ ‵ (i64.own_val u (z ∷ [])) ∷ []) ∵
@@ -169,11 +169,11 @@ module _ {M : Type 1} {𝓤 : Ura M} (𝓛 : Logic 𝓤) (at_mem : Memory → SP
       move ! (2 ∷ 0 ∷ []) $ fjoin ! $ owned ! u64 (Is u64) (uint_Makes 𝓛 w64) what _ (refl, fs.1) $ fjoin ! $
       owned ! u64 (Is u64) (uint_Makes 𝓛 w64) desk _ (refl, fs.0) $ fjoin ! $ move ! (1 ∷ 0 ∷ []) $ fjoin ! $ done !
 
-  abbrev to-call : (Call 𝓛 at_mem run).Ghost
-  to-call = (((κ₁, (κ₂, (κ₃, tt))), (q₁, (q₂, (q₃, tt))), tt, passed, at.1.1), tt)
+  abbrev to_call : (Call 𝓛 at_mem run).Ghost
+  to_call = (((κ₁, (κ₂, (κ₃, tt))), (q₁, (q₂, (q₃, tt))), tt, passed, at.1.1), tt)
 
-  goes-call : Fit → ent 𝓤 (⋆ 𝓛 ((Tokens ⊛ ‵ Image) ∷ ‵ Path ∷ ‵ Lent ∷ [])) ((Call 𝓛 at_mem run).pre to-call)
-  goes-call fs =
+  goes_call : Fit → ent 𝓤 (⋆ 𝓛 ((Tokens ⊛ ‵ Image) ∷ ‵ Path ∷ ‵ Lent ∷ [])) ((Call 𝓛 at_mem run).pre to_call)
+  goes_call fs =
       qed 𝓛 ((Tokens ⊛ ‵ Image) ∷ ‵ Path ∷ ‵ Lent ∷ []) ∵ split ! $ nothing ! $ move ! (4 ∷ 0 ∷ []) $ fjoin ! $ move ! (3 ∷ 0 ∷ []) $ fjoin ! $
       -- [what the path and the buffer own; the tokens; what the image owns]
       owned ! u64 (Is u64) (uint_Makes 𝓛 w64) c _ (refl, fs.7) $ fjoin ! $ owned ! u64 (Is u64) (uint_Makes 𝓛 w64) b _ (refl, fs.6) $ fjoin ! $
@@ -181,23 +181,23 @@ module _ {M : Type 1} {𝓤 : Ura M} (𝓛 : Logic 𝓤) (at_mem : Memory → SP
       owned ! u64 (Is u64) (uint_Makes 𝓛 w64) xid _ (refl, fs.3) $ fjoin ! $ owned ! u64 (Is u64) (uint_Makes 𝓛 w64) numbered _ (refl, fs.2) $ fjoin ! $
       move ! (2 ∷ 0 ∷ []) $ fjoin ! $ owned ! u64 (Is u64) (uint_Makes 𝓛 w64) what _ (refl, fs.1) $ fjoin ! $ move ! (1 ∷ 0 ∷ []) $ join ! $ frame ! $ done !
 
-  abbrev to-more : Called → Val → (More 𝓛 at_mem run).Ghost
-  to-more t z = ((tt, tt, tt, (h, (desk, (t, tt))), (mach ∷ [], (vint w64 desk ∷ [], (z ∷ [], tt)))), tt)
+  abbrev to_more : Called → Val → (More 𝓛 at_mem run).Ghost
+  to_more t z = ((tt, tt, tt, (h, (desk, (t, tt))), (mach ∷ [], (vint w64 desk ∷ [], (z ∷ [], tt)))), tt)
 
-  goes-more : Fit → (t : Called) (z : Val) → Is K.the_row t (z ∷ []) → ent 𝓤 (sem 𝓛 ((T.the_row).own_val h (mach ∷ []))) ((More 𝓛 at_mem run).pre (to-more t z))
-  goes-more fs t z is =
+  goes_more : Fit → (t : Called) (z : Val) → Is K.the_row t (z ∷ []) → ent 𝓤 (sem 𝓛 ((T.the_row).own_val h (mach ∷ []))) ((More 𝓛 at_mem run).pre (to_more t z))
+  goes_more fs t z is =
       qed 𝓛 (‵ ((T.the_row).own_val h (mach ∷ [])) ∷ []) ∵ nothing ! $ owned ! K.the_row (Is K.the_row) ((LL.makes K.the_type K'.the_plain) 𝓛) t _ is $ join ! $ owned ! u64 (Is u64) (uint_Makes 𝓛 w64) desk _ (refl, fs.0) $ join ! $
       move ! (1 ∷ 0 ∷ []) $ join ! $ nothing ! $ join ! $ frame ! $ done !
 
-  abbrev to-result : Called → Val → (Result 𝓛 at_mem run).Ghost
-  to-result t z = ((tt, tt, tt, (t, tt), (z ∷ [], tt)), tt)
+  abbrev to_result : Called → Val → (Result 𝓛 at_mem run).Ghost
+  to_result t z = ((tt, tt, tt, (t, tt), (z ∷ [], tt)), tt)
 
-  goes-result : (t : Called) (z : Val) → ent 𝓤 (sem 𝓛 ((K.the_row).own_val t (z ∷ []))) ((Result 𝓛 at_mem run).pre (to-result t z))
-  goes-result t z = qed 𝓛 (‵ ((K.the_row).own_val t (z ∷ [])) ∷ []) ∵ nothing ! $ move ! (1 ∷ 0 ∷ []) $ join ! $ nothing ! $ join ! $ frame ! $ done !
+  goes_result : (t : Called) (z : Val) → ent 𝓤 (sem 𝓛 ((K.the_row).own_val t (z ∷ []))) ((Result 𝓛 at_mem run).pre (to_result t z))
+  goes_result t z = qed 𝓛 (‵ ((K.the_row).own_val t (z ∷ [])) ∷ []) ∵ nothing ! $ move ! (1 ∷ 0 ∷ []) $ join ! $ nothing ! $ join ! $ frame ! $ done !
 
   -- what the call says of its answer and of the last list
   abbrev Said : Called → List ℕ → Type 0
-  Said t zs = (t.result ≡ resultFor Q ys) × (t.nodes ≡ nodesOf Q) × (zs ≡ bufferFor Q ys)
+  Said t zs = (t.result ≡ result_for Q ys) × (t.nodes ≡ nodes_of Q) × (zs ≡ buffer_for Q ys)
 
   -- what is said of each parameter's last value: of the buffer alone
   abbrev Lasts : Type 0
@@ -226,8 +226,8 @@ module _ {M : Type 1} {𝓤 : Ura M} (𝓛 : Logic 𝓤) (at_mem : Memory → SP
         assigns ! (addr ! (from ! (fld ! refl (hop ! (look_in ! 10 (sub ! 0 refl (whole !))) (stop !))))) (from ! (stop !)) (init ! 6 refl (tt, tt)) $
         assigns ! (agg ! (and_then ! (load ! (from ! (stop !)) (look ! 6 refl)) (and_then ! (load ! (from ! (fld ! refl (stop !))) (look_in ! 10 (sub ! 1 refl (whole !)))) (no_more !)))) (from ! (stop !)) (init ! 4 refl (tt, (tt, (record { fits = room.0 }, tt)))) $
         -- `call`: [room for _17; …; _0; …; obs; the borrow; its token; the slices' tokens; the image; the path; the buffer; true; the path; the image]
-        move ! (39 ∷ 40 ∷ 41 ∷ 42 ∷ []) $ join ! $ use3 𝓛 (raw ((Call 𝓛 at_mem run).pre to-call)) (goes-call fs) $
-        calls_at ! fm (Call 𝓛 at_mem run) known-call to-call
+        move ! (39 ∷ 40 ∷ 41 ∷ 42 ∷ []) $ join ! $ use3 𝓛 (raw ((Call 𝓛 at_mem run).pre to_call)) (goes_call fs) $
+        calls_at ! fm (Call 𝓛 at_mem run) known-call to_call
         (and_then ! (load ! (from ! (stop !)) (look ! 29 refl)) (and_then ! (load ! (from ! (stop !)) (look ! 27 refl)) (and_then ! (load ! (from ! (stop !)) (look ! 25 refl))
         (and_then ! (load ! (from ! (stop !)) (look ! 23 refl)) (and_then ! (load ! (from ! (stop !)) (look ! 21 refl)) (and_then ! (load ! (from ! (stop !)) (look ! 19 refl))
         (and_then ! (load ! (from ! (stop !)) (look ! 17 refl)) (and_then ! (load ! (from ! (stop !)) (look ! 15 refl)) (and_then ! (load ! (from ! (stop !)) (look ! 13 refl))
@@ -245,8 +245,8 @@ module _ {M : Type 1} {𝓤 : Ura M} (𝓛 : Logic 𝓤) (at_mem : Memory → SP
         -- [what the record owns; its cell; the open borrow; obs; auth; the tokens; the last list; true; room for _17; …]
         assigns ! (of_opd ! (load ! (from ! (hop ! (look ! 40 refl) (stop !))) (look_raw ! 1 refl))) (from ! (stop !)) (init ! 8 refl ((LL.lawful T.the_type T'.the_laws 𝓛).typed h _ was).0) $
         -- `more_by`
-        use1 𝓛 (raw ((More 𝓛 at_mem run).pre (to-more t z₀))) (goes-more fs t z₀ is) $
-        calls_at ! fm (More 𝓛 at_mem run) known_more (to-more t z₀)
+        use1 𝓛 (raw ((More 𝓛 at_mem run).pre (to_more t z₀))) (goes_more fs t z₀ is) $
+        calls_at ! fm (More 𝓛 at_mem run) known_more (to_more t z₀)
         (and_then ! (load ! (from ! (stop !)) (look ! 8 refl)) (and_then ! (load ! (from ! (stop !)) (look ! 38 refl)) (and_then ! (load ! (from ! (stop !)) (look ! 16 refl)) (no_more !)))) (λ z₁.
         use1 𝓛 (later (some (λ (r : DeskCounts). (‵ ftrue ⊛ ‵ ((T.the_row).own_val r (z₁ ∷ []))) ⊛ raw (ensured 𝓛 more.ended (more.clauses 𝓛 at_mem run) tt (h, (desk, (t, tt))) tt r)))) (id⊢ 𝓤 _) $ await ! tt $ pick ! (λ r.
         split ! $ move ! (1 ∷ []) $ use1 𝓛 (raw (fact 𝓤 (r.counts ≡ added h.counts desk t.nodes))) (more_of 𝓛 at_mem run h desk t r) $ heard ! (r.counts ≡ added h.counts desk t.nodes) (λ e₁. split ! $ drop ! $
@@ -255,10 +255,10 @@ module _ {M : Type 1} {𝓤 : Ura M} (𝓛 : Logic 𝓤) (at_mem : Memory → SP
         assigns ! (of_opd ! (load ! (from ! (stop !)) (look ! 10 refl))) (from ! (hop ! (look ! 40 refl) (stop !))) (store_raw ! 1 refl ((LL.lawful T.the_type T'.the_laws 𝓛).typed r _ is₁).0) $
         move ! (1 ∷ 0 ∷ []) $ closes ! tt T.the_row r (z₁ ∷ []) k₀ o₀ $
         -- `result_in`: [obs; the borrow; its token; the tokens; the last list; true; room for _17; …]
-        owned ! K.the_row (Is K.the_row) ((LL.makes K.the_type K'.the_plain) 𝓛) t _ is $ use1 𝓛 (raw ((Result 𝓛 at_mem run).pre (to-result t z₀))) (goes-result t z₀) $
-        calls_at ! fm (Result 𝓛 at_mem run) known-result (to-result t z₀) (and_then ! (load ! (from ! (stop !)) (look ! 15 refl)) (no_more !)) (λ z.
+        owned ! K.the_row (Is K.the_row) ((LL.makes K.the_type K'.the_plain) 𝓛) t _ is $ use1 𝓛 (raw ((Result 𝓛 at_mem run).pre (to_result t z₀))) (goes_result t z₀) $
+        calls_at ! fm (Result 𝓛 at_mem run) known-result (to_result t z₀) (and_then ! (load ! (from ! (stop !)) (look ! 15 refl)) (no_more !)) (λ z.
         use1 𝓛 (later (some (λ (u : ℤ). (‵ ftrue ⊛ ‵ (i64.own_val u (z ∷ []))) ⊛ raw (ensured 𝓛 result.ended (result.clauses 𝓛 at_mem run) tt (t, tt) tt u)))) (id⊢ 𝓤 _) $ await ! tt $ pick ! (λ u.
-        split ! $ move ! (1 ∷ []) $ use1 𝓛 (raw (fact 𝓤 (u ≡ t.result))) (result-of 𝓛 at_mem run t u) $ heard ! (u ≡ t.result) (λ e₂. split ! $ drop ! $
+        split ! $ move ! (1 ∷ []) $ use1 𝓛 (raw (fact 𝓤 (u ≡ t.result))) (result_of_lem 𝓛 at_mem run t u) $ heard ! (u ≡ t.result) (λ e₂. split ! $ drop ! $
         peeks ! i64 (Is i64) (shows 𝓛 i64) u (z ∷ []) (λ is₂.
         land ! (from ! (stop !)) (init ! 41 refl ((sint_Lawful 𝓛 w64).typed u _ is₂).0) $
         returns ! (look ! 41 refl) $
@@ -274,9 +274,9 @@ module _ {M : Type 1} {𝓤 : Ura M} (𝓛 : Logic 𝓤) (at_mem : Memory → SP
 module _ {M : Type 1} {𝓤 : Ura M} (𝓛 : Logic 𝓤) (at_mem : Memory → SProp 𝓤) (run : Routine → Fun 𝓤) where
   open 𝓛 use {H}
 
-  apfs-desk-walks : (C : Calls 𝓤 H) (Λ : Loops 𝓤 H) → FmC 𝓤 H 𝓛.laws C → Triple 𝓤 (C #desks·call) (Call 𝓛 at_mem run) → Triple 𝓤 (C #desks·more-by) (More 𝓛 at_mem run) → Triple 𝓤 (C #desks·result-in) (Result 𝓛 at_mem run)
+  apfs_desk_walks : (C : Calls 𝓤 H) (Λ : Loops 𝓤 H) → FmC 𝓤 H 𝓛.laws C → Triple 𝓤 (C #desks·call) (Call 𝓛 at_mem run) → Triple 𝓤 (C #desks·more-by) (More 𝓛 at_mem run) → Triple 𝓤 (C #desks·result-in) (Result 𝓛 at_mem run)
       → Walks 𝓛 f.ended stayed (WpFn 𝓤 H C Λ code.function) (f.clauses 𝓛 at_mem run)
-  apfs-desk-walks C Λ fm known-call known_more known-result = walked 𝓛 f.ended stayed (f.clauses 𝓛 at_mem run) (WpFn 𝓤 H C Λ code.function)
+  apfs_desk_walks C Λ fm known-call known_more known-result = walked 𝓛 f.ended stayed (f.clauses 𝓛 at_mem run) (WpFn 𝓤 H C Λ code.function)
       (λ κs. (shr_vals, (uint_vals w64, (uint_vals w64, (shr_slice_vals, (uint_vals w64, (uint_vals w64, (uint_vals w64, (uint_vals w64, (uint_vals w64, (uint_vals w64, (shr_slice_vals, (shr_slice_vals, tt)))))))))))))
       (λ κs. (mut_Tells (named 0) κs.0 T.the_row, (uint_Tells w64, (uint_Tells w64, (shr_slice_Tells (named 1) κs.1.0 u8, (uint_Tells w64, (uint_Tells w64, (uint_Tells w64, (uint_Tells w64, (uint_Tells w64, (uint_Tells w64, (shr_slice_Tells (named 2) κs.1.1.0 u8, (mut_slice_Tells (named 3) κs.1.1.1.0 u8, tt)))))))))))))
       (λ κs qs bounds a _ are. via 𝓤 _ (fst∗ 𝓤 _ (emp 𝓤)) (walk 𝓛 at_mem run κs.0 κs.1.0 κs.1.1.0 κs.1.1.1.0 qs.0 qs.1.0 qs.1.1.0 qs.1.1.1.0
@@ -287,24 +287,24 @@ module _ {M : Type 1} {𝓤 : Ura M} (𝓛 : Logic 𝓤) (at_mem : Memory → SP
       (are.1.0.1, are.1.1.0.1, are.1.1.1.1.0.1, are.1.1.1.1.1.0.1, are.1.1.1.1.1.1.0.1, are.1.1.1.1.1.1.1.0.1, are.1.1.1.1.1.1.1.1.0.1, are.1.1.1.1.1.1.1.1.1.0.1)
       are.1.1.1.0 are.1.1.1.1.1.1.1.1.1.1.0 are.1.1.1.1.1.1.1.1.1.1.1.0.0.1))
 
-  num-goes : Goes 𝓛 4 (plain (λ _. u64)) yes num
-  num-goes = Goes-none 𝓛 4 (λ _. u64) yes (λ κs x f. refl)
+  num_goes : Goes 𝓛 4 (plain (λ _. u64)) yes num
+  num_goes = Goes-none 𝓛 4 (λ _. u64) yes (λ κs x f. refl)
 
   goes : AllGo 𝓛 4 (f.signature).params (f.ended).kept stayed
-  goes = (Goes-ref 𝓛 4 0 tt (plain (λ _. T.the_row)), (num-goes, (num-goes, (Goes-none_slice 𝓛 4 (1 ∷ []) tt (plain (λ _. u8)) yes, (num-goes, (num-goes, (num-goes, (num-goes, (num-goes, (num-goes, (Goes-none_slice 𝓛 4 (2 ∷ []) tt (plain (λ _. u8)) yes, (Goes-gave_slice 𝓛 4 3 tt (plain (λ _. u8)), tt))))))))))))
+  goes = (Goes-ref 𝓛 4 0 tt (plain (λ _. T.the_row)), (num_goes, (num_goes, (Goes-none_slice 𝓛 4 (1 ∷ []) tt (plain (λ _. u8)) yes, (num_goes, (num_goes, (num_goes, (num_goes, (num_goes, (num_goes, (Goes-none_slice 𝓛 4 (2 ∷ []) tt (plain (λ _. u8)) yes, (Goes-gave_slice 𝓛 4 3 tt (plain (λ _. u8)), tt))))))))))))
 
-apfs-desk-meets : {M : Type 1} {𝓤 : Ura M} (𝓛 : Logic 𝓤) (at_mem : Memory → SProp 𝓤) (run : Routine → Fun 𝓤) (𝓣 : Tables 𝓤 𝓛.H)
+apfs_desk_meets : {M : Type 1} {𝓤 : Ura M} (𝓛 : Logic 𝓤) (at_mem : Memory → SProp 𝓤) (run : Routine → Fun 𝓤) (𝓣 : Tables 𝓤 𝓛.H)
     → Triple 𝓤 (𝓣.C #desks·call) (Call 𝓛 at_mem run) → Triple 𝓤 (𝓣.C #desks·more-by) (More 𝓛 at_mem run) → Triple 𝓤 (𝓣.C #desks·result-in) (Result 𝓛 at_mem run)
     → Meets 𝓛 f.signature (WpFn 𝓤 𝓛.H 𝓣.C 𝓣.Λ code.function) (f.spec 𝓛 at_mem run)
-apfs-desk-meets {𝓤 = 𝓤} 𝓛 at_mem run 𝓣 known-call known_more known-result = walk_Meets 𝓛 f.ended stayed (goes 𝓛 at_mem run) (f.clauses 𝓛 at_mem run) (WpFn 𝓤 𝓛.H 𝓣.C 𝓣.Λ code.function) (WpFn-mono 𝓤 𝓛.H 𝓛.laws 𝓣 code.function)
-    (apfs-desk-walks 𝓛 at_mem run 𝓣.C 𝓣.Λ (fm_of 𝓤 𝓛.H 𝓛.laws 𝓣) known-call known_more known-result)
+apfs_desk_meets {𝓤 = 𝓤} 𝓛 at_mem run 𝓣 known-call known_more known-result = walk_Meets 𝓛 f.ended stayed (goes 𝓛 at_mem run) (f.clauses 𝓛 at_mem run) (WpFn 𝓤 𝓛.H 𝓣.C 𝓣.Λ code.function) (WpFn-mono 𝓤 𝓛.H 𝓛.laws 𝓣 code.function)
+    (apfs_desk_walks 𝓛 at_mem run 𝓣.C 𝓣.Λ (fm_of 𝓤 𝓛.H 𝓛.laws 𝓣) known-call known_more known-result)
 
-pub apfs-desk-spec : {M : Type 1} → stated.statement M
+pub apfs_desk_spec : {M : Type 1} → stated.statement M
 unfolding code.routine tables_of
-apfs-desk-spec 𝓤 𝓛 𝓜 𝓡 =
+apfs_desk_spec 𝓤 𝓛 𝓜 𝓡 =
     entered 𝓤 𝓛.H (triple_of 𝓛 f.signature (f.spec 𝓛 𝓜.mem 𝓡.run))
     (tables 𝓤 𝓛.H 𝓜 𝓡 code.env).C (tables 𝓤 𝓛.H 𝓜 𝓡 code.env).Λ #apfs·apfs-desk code.function (code.unfolded 𝓤 𝓛.H 𝓜 𝓡)
-    (apfs-desk-meets 𝓛 𝓜.mem 𝓡.run (tables_of 𝓤 𝓛.H 𝓜 (tables 𝓤 𝓛.H 𝓜 𝓡 code.env))
+    (apfs_desk_meets 𝓛 𝓜.mem 𝓡.run (tables_of 𝓤 𝓛.H 𝓜 (tables 𝓤 𝓛.H 𝓜 𝓡 code.env))
     (cited 𝓤 𝓛.H (Call 𝓛 𝓜.mem 𝓡.run) 𝓜 𝓡 code.env #desks·call call-def.routine code.calls-desks::call (call-thm.met 𝓤 𝓛 𝓜 𝓡))
     (cited 𝓤 𝓛.H (More 𝓛 𝓜.mem 𝓡.run) 𝓜 𝓡 code.env #desks·more-by more-def.routine code.calls-desks::more-by (more-thm.met 𝓤 𝓛 𝓜 𝓡))
     (cited 𝓤 𝓛.H (Result 𝓛 𝓜.mem 𝓡.run) 𝓜 𝓡 code.env #desks·result-in result-def.routine code.calls-desks::result-in (result-thm.met 𝓤 𝓛 𝓜 𝓡)))

@@ -3,8 +3,8 @@ use Rattle.results.proofs.Xids.{xids}
 use Rattle.apfs.proofs.earlier.apfs_checkpoints.Statement.{statement}
 use Rattle.apfs.proofs.earlier.apfs_checkpoints.Tie as tie
 
-pub apfs-checkpoints-spec : {M : Type 1} → statement M
-apfs-checkpoints-spec =
+pub apfs_checkpoints_spec : {M : Type 1} → statement M
+apfs_checkpoints_spec =
     tie.close
     (tie.spec
     (λ c κs. search rules)

@@ -3,8 +3,8 @@ use Rattle.results.proofs.Mends.{mends}
 use Rattle.apfs.proofs.object.apfs_wrong_words.Statement.{statement}
 use Rattle.apfs.proofs.object.apfs_wrong_words.Tie as tie
 
-pub apfs-wrong-words-spec : {M : Type 1} → statement M
-apfs-wrong-words-spec =
+pub apfs_wrong_words_spec : {M : Type 1} → statement M
+apfs_wrong_words_spec =
     tie.close
     (tie.spec
     (λ c κs. search rules)

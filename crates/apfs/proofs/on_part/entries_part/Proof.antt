@@ -3,8 +3,8 @@ use Rattle.results.proofs.Results.{ends}
 use Rattle.apfs.proofs.on_part.entries_part.Statement.{statement}
 use Rattle.apfs.proofs.on_part.entries_part.Tie as tie
 
-pub entries-part-spec : {M : Type 1} → statement M
-entries-part-spec =
+pub entries_part_spec : {M : Type 1} → statement M
+entries_part_spec =
     tie.close
     (tie.spec
     (λ c κs. search rules)

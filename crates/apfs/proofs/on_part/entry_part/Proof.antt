@@ -3,8 +3,8 @@ use Rattle.results.proofs.Results.{ends}
 use Rattle.apfs.proofs.on_part.entry_part.Statement.{statement}
 use Rattle.apfs.proofs.on_part.entry_part.Tie as tie
 
-pub entry-part-spec : {M : Type 1} → statement M
-entry-part-spec =
+pub entry_part_spec : {M : Type 1} → statement M
+entry_part_spec =
     tie.close
     (tie.spec
     (λ c κs. search rules)

@@ -3,8 +3,8 @@ use Rattle.results.proofs.Results.{ends}
 use Rattle.apfs.proofs.on_part.extent_part.Statement.{statement}
 use Rattle.apfs.proofs.on_part.extent_part.Tie as tie
 
-pub extent-part-spec : {M : Type 1} → statement M
-extent-part-spec =
+pub extent_part_spec : {M : Type 1} → statement M
+extent_part_spec =
     tie.close
     (tie.spec
     (λ c κs. search rules)

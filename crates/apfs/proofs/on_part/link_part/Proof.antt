@@ -3,8 +3,8 @@ use Rattle.results.proofs.Results.{ends}
 use Rattle.apfs.proofs.on_part.link_part.Statement.{statement}
 use Rattle.apfs.proofs.on_part.link_part.Tie as tie
 
-pub link-part-spec : {M : Type 1} → statement M
-link-part-spec =
+pub link_part_spec : {M : Type 1} → statement M
+link_part_spec =
     tie.close
     (tie.spec
     (λ c κs. search rules)

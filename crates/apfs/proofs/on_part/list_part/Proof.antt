@@ -1,12 +1,12 @@
 use borrow.Author.Rules.{rules}
-use Rattle.demand.specs.Demand.{listingOf}
+use Rattle.demand.specs.Demand.{listing_of}
 use Rattle.results.proofs.Listings.{listed}
 use Rattle.apfs.proofs.on_part.list_part.Statement.{statement}
 use Rattle.apfs.proofs.on_part.list_part.Tie as tie
 
-pub list-part-spec : {M : Type 1} → statement M
-unfolding listingOf
-list-part-spec =
+pub list_part_spec : {M : Type 1} → statement M
+unfolding listing_of
+list_part_spec =
     tie.close
     (tie.spec
     (λ c κs. search rules)

@@ -3,8 +3,8 @@ use Rattle.results.proofs.Results.{ends}
 use Rattle.apfs.proofs.on_part.lookup_part.Statement.{statement}
 use Rattle.apfs.proofs.on_part.lookup_part.Tie as tie
 
-pub lookup-part-spec : {M : Type 1} → statement M
-lookup-part-spec =
+pub lookup_part_spec : {M : Type 1} → statement M
+lookup_part_spec =
     tie.close
     (tie.spec
     (λ c κs. search rules)

@@ -3,8 +3,8 @@ use Rattle.results.proofs.Results.{ends}
 use Rattle.apfs.proofs.on_part.measure_part.Statement.{statement}
 use Rattle.apfs.proofs.on_part.measure_part.Tie as tie
 
-pub measure-part-spec : {M : Type 1} → statement M
-measure-part-spec =
+pub measure_part_spec : {M : Type 1} → statement M
+measure_part_spec =
     tie.close
     (tie.spec
     (λ c κs. search rules)

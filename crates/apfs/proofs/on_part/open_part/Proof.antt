@@ -3,8 +3,8 @@ use Rattle.results.proofs.Results.{ends}
 use Rattle.apfs.proofs.on_part.open_part.Statement.{statement}
 use Rattle.apfs.proofs.on_part.open_part.Tie as tie
 
-pub open-part-spec : {M : Type 1} → statement M
-open-part-spec =
+pub open_part_spec : {M : Type 1} → statement M
+open_part_spec =
     tie.close
     (tie.spec
     (λ c κs. search rules)

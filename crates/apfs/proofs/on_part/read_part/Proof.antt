@@ -3,8 +3,8 @@ use Rattle.results.proofs.Results.{ends}
 use Rattle.apfs.proofs.on_part.read_part.Statement.{statement}
 use Rattle.apfs.proofs.on_part.read_part.Tie as tie
 
-pub read-part-spec : {M : Type 1} → statement M
-read-part-spec =
+pub read_part_spec : {M : Type 1} → statement M
+read_part_spec =
     tie.close
     (tie.spec
     (λ c κs. search rules)

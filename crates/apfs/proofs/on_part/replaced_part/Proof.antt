@@ -3,8 +3,8 @@ use Rattle.results.proofs.Results.{ends}
 use Rattle.apfs.proofs.on_part.replaced_part.Statement.{statement}
 use Rattle.apfs.proofs.on_part.replaced_part.Tie as tie
 
-pub replaced-part-spec : {M : Type 1} → statement M
-replaced-part-spec =
+pub replaced_part_spec : {M : Type 1} → statement M
+replaced_part_spec =
     tie.close
     (tie.spec
     (λ c κs. search rules)

@@ -3,8 +3,8 @@ use Rattle.results.proofs.Results.{ends}
 use Rattle.apfs.proofs.on_part.xattr_bytes_part.Statement.{statement}
 use Rattle.apfs.proofs.on_part.xattr_bytes_part.Tie as tie
 
-pub xattr-bytes-part-spec : {M : Type 1} → statement M
-xattr-bytes-part-spec =
+pub xattr_bytes_part_spec : {M : Type 1} → statement M
+xattr_bytes_part_spec =
     tie.close
     (tie.spec
     (λ c κs. search rules)

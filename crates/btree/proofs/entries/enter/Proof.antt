@@ -1,11 +1,11 @@
 use borrow.Author.Rules.{rules}
-use Rattle.btree.specs.Entries.{enterAt}
+use Rattle.btree.specs.Entries.{enter_at}
 use Rattle.btree.proofs.Laws.{all, parts}
 use Rattle.btree.proofs.entries.enter.Statement.{statement}
 use Rattle.btree.proofs.entries.enter.Tie as tie
 
 pub enter_spec : {M : Type 1} → statement M
-unfolding enterAt
+unfolding enter_at
 enter_spec =
     tie.close
     (tie.spec

@@ -4,9 +4,9 @@ use Rattle.btree.proofs.Laws.{all, parts}
 use Rattle.btree.proofs.entries.order_in.Statement.{statement}
 use Rattle.btree.proofs.entries.order_in.Tie as tie
 
-pub order-in-spec : {M : Type 1} → statement M
+pub order_in_spec : {M : Type 1} → statement M
 unfolding order_in
-order-in-spec =
+order_in_spec =
     tie.close
     (tie.spec
     (λ c κs. search rules)

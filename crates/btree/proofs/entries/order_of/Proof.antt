@@ -4,9 +4,9 @@ use Rattle.btree.proofs.Laws.{all}
 use Rattle.btree.proofs.entries.order_of.Statement.{statement}
 use Rattle.btree.proofs.entries.order_of.Tie as tie
 
-pub order-of-spec : {M : Type 1} → statement M
+pub order_of_spec : {M : Type 1} → statement M
 unfolding order_of
-order-of-spec =
+order_of_spec =
     tie.close
     (tie.spec
     (λ c. search all)

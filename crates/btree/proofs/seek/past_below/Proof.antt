@@ -1,18 +1,18 @@
 use Prim.Native.Nat.{◌-◌, ◌<◌}
 use mathlib.Core.Path.{◌≡◌}
-use Rattle.btree.specs.Inner.{followIn}
+use Rattle.btree.specs.Inner.{follow_in}
 use Rattle.btree.proofs.Seeking.{following}
 use Rattle.btree.proofs.seek.past_below.Statement.{statement}
 use Rattle.btree.proofs.seek.past_below.Tie as tie
 
 abbrev invariant-loop : tie.invariant-loop
-invariant-loop b node info id kind from at₀ at = (at < node.nkeys) × (followIn b node info id kind at ≡ followIn b node info id kind from)
+invariant-loop b node info id kind from at₀ at = (at < node.nkeys) × (follow_in b node info id kind at ≡ follow_in b node info id kind from)
 
 abbrev decreases-loop : tie.decreases-loop
 decreases-loop b node info id kind from at₀ at = node.nkeys - at
 
-pub past-below-spec : {M : Type 1} → statement M
-past-below-spec =
+pub past_below_spec : {M : Type 1} → statement M
+past_below_spec =
     tie.close
     (tie.spec
     invariant-loop

@@ -3,8 +3,8 @@ use borrow.Author.Rules.{rules}
 use Rattle.btree.proofs.seek.seek_in.Statement.{statement}
 use Rattle.btree.proofs.seek.seek_in.Tie as tie
 
-pub seek-in-spec : {M : Type 1} → statement M
-seek-in-spec =
+pub seek_in_spec : {M : Type 1} → statement M
+seek_in_spec =
     tie.close
     (tie.spec
     (λ c. search seeking)

@@ -3,8 +3,8 @@ use borrow.Author.Rules.{rules}
 use Rattle.btree.proofs.seek.stays.Statement.{statement}
 use Rattle.btree.proofs.seek.stays.Tie as tie
 
-pub stays-spec : {M : Type 1} → statement M
-stays-spec =
+pub stays_spec : {M : Type 1} → statement M
+stays_spec =
     tie.close
     (tie.spec
     (λ c. search staying)

@@ -3,7 +3,7 @@ use mathlib.Core.Path.{◌≡◌}
 use borrow.Author.Rules.{rules}
 use Rattle.btree.specs.Scan.{Tail, nth}
 use Rattle.btree.specs.Inner.{each, child, walk}
-use Rattle.btree.proofs.Nth.{indexes, index-less, nodes, made-left, turn-over}
+use Rattle.btree.proofs.Nth.{indexes, index_less, nodes, made_left, turn_over}
 use borrow.Fn.Kinds.{In}
 use borrow.Fn.PlainCycle.{Measures, is, falls, and}
 use Rattle.btree.proofs.skip.pass_child.Reads as pass-child
@@ -24,36 +24,36 @@ abbrev μ-pass-child : Measures 1 pass-child-kinds.ps ℕ
 abbrev μ-pass-node : Measures 1 pass-node-kinds.ps ℕ
 μ-pass-node κs a = 2 * a.1.1.0 + 1
 
-abbrev pass-child-at : ℕ → In 1 pass-child-kinds.ps
-pass-child-at t =
+abbrev pass_child_at : ℕ → In 1 pass-child-kinds.ps
+pass_child_at t =
     and 1 pass-child-kinds.ps (is 1 pass-child-kinds.ps μ-pass-child t) pass-child.Pre
 
-abbrev pass-child-below : ℕ → In 1 pass-child-kinds.ps
-pass-child-below t =
+abbrev pass_child_below : ℕ → In 1 pass-child-kinds.ps
+pass_child_below t =
     and 1 pass-child-kinds.ps (falls 1 pass-child-kinds.ps ◌<◌ μ-pass-child t) pass-child.Pre
 
-abbrev pass-node-at : ℕ → In 1 pass-node-kinds.ps
-pass-node-at t = and 1 pass-node-kinds.ps (is 1 pass-node-kinds.ps μ-pass-node t) pass-node.Pre
+abbrev pass_node_at : ℕ → In 1 pass-node-kinds.ps
+pass_node_at t = and 1 pass-node-kinds.ps (is 1 pass-node-kinds.ps μ-pass-node t) pass-node.Pre
 
-abbrev pass-node-below : ℕ → In 1 pass-node-kinds.ps
-pass-node-below t =
+abbrev pass_node_below : ℕ → In 1 pass-node-kinds.ps
+pass_node_below t =
     and 1 pass-node-kinds.ps (falls 1 pass-node-kinds.ps ◌<◌ μ-pass-node t) pass-node.Pre
 
-abbrev pass-node-Inv-loop : pass-node-lts.invariant-loop
-pass-node-Inv-loop image q level node skip nodes left₀ n₀ i₀ left n i =
+abbrev pass_node_Inv_loop : pass-node-lts.invariant-loop
+pass_node_Inv_loop image q level node skip nodes left₀ n₀ i₀ left n i =
     (k : Tail) → nth left (each (child image q level) image q node (node .nkeys - i) i k n) ≡ nth skip (walk image q level node 0 k nodes)
 
 abbrev pass-node-μ-loop : pass-node-lts.decreases-loop
 pass-node-μ-loop image q level node skip nodes left₀ n₀ i₀ left n i = node .nkeys - i
 
-pub +pass-child-pass-node-spec : {M : Type 1} → statement M
-+pass-child-pass-node-spec = close μ-pass-child μ-pass-node (λ t. pass-child-lts.spec (
+pub +pass_child_pass_node_spec : {M : Type 1} → statement M
++pass_child_pass_node_spec = close μ-pass-child μ-pass-node (λ t. pass-child-lts.spec (
   pass-of-reads.Asked,
   pass-of-reads.Learnt,
-  pass-node-below t,
+  pass_node_below t,
   pass-node.Post,
 )
-    (pass-child-at t)
+    (pass_child_at t)
     pass-child.Post
     -- pass-child-pass-of-requires
     (λ c κs. search rules)
@@ -78,12 +78,12 @@ pub +pass-child-pass-node-spec : {M : Type 1} → statement M
       next-child-reads.Learnt,
       pass-of-reads.Asked,
       pass-of-reads.Learnt,
-      pass-child-below t,
+      pass_child_below t,
       pass-child.Post,
     )
-    (pass-node-at t)
+    (pass_node_at t)
     pass-node.Post
-    pass-node-Inv-loop
+    pass_node_Inv_loop
     pass-node-μ-loop
     -- pass-node-pass-leaf-requires
     (λ c κs. search rules)
@@ -98,7 +98,7 @@ pub +pass-child-pass-node-spec : {M : Type 1} → statement M
     -- pass-node-pass-of-requires
     (λ c κs. search rules)
     -- pass-node-returns-2
-    (λ c. λ k. made-left _ _ _ _ _ c.pass_of.ensures (turn-over _ _ _ _ _ _ k _ _ (c.before.before.before.before.loop.invariant k) _ c.before.before.before.next-child.ensures (search rules)))
+    (λ c. λ k. made_left _ _ _ _ _ c.pass_of.ensures (turn_over _ _ _ _ _ _ k _ _ (c.before.before.before.before.loop.invariant k) _ c.before.before.before.next-child.ensures (search rules)))
     -- pass-node-enum-told-2
     (λ c. search rules)
     -- pass-node-pass-of-requires-2
@@ -116,7 +116,7 @@ pub +pass-child-pass-node-spec : {M : Type 1} → statement M
     -- pass-node-enum-known-pass
     (λ c. search rules)
     -- pass-node-loop-less
-    (λ c. search (rules, index-less))
+    (λ c. search (rules, index_less))
     -- pass-node-loop-again
     (λ c. λ k. let p = c.before.before.before.before.before.before.before.before.loop.invariant k in search indexes)
     -- pass-node-enum-told-4

@@ -3,22 +3,22 @@ use mathlib.Core.Path.{◌≡◌, refl}
 use mathlib.Core.List.{List}
 use Rattle.btree.specs.Entries.{bytes_of}
 use Rattle.btree.specs.Scan.{Run, nth}
-use Rattle.btree.specs.Inner.{leafFrom}
+use Rattle.btree.specs.Inner.{leaf_from}
 use Rattle.btree.specs.declared.entries.Search.{Search}
-use Rattle.btree.proofs.Nth.{leaves, in-that}
+use Rattle.btree.proofs.Nth.{leaves, in_that}
 use Rattle.btree.proofs.skip.pass_in.Statement.{statement}
 use Rattle.btree.proofs.skip.pass_in.Tie as tie
 
 abbrev invariant-loop : tie.invariant-loop
 invariant-loop b k node skip left₀ i₀ left i =
     (image : List ℕ) (q : Search) → k ≡ q.keys → b ≡ bytes_of image q node →
-    (s : ℕ) (t : Run) → nth left (leafFrom image q node (node.nkeys - i) i s t) ≡ nth skip (leafFrom image q node (node.nkeys - 0) 0 s t)
+    (s : ℕ) (t : Run) → nth left (leaf_from image q node (node.nkeys - i) i s t) ≡ nth skip (leaf_from image q node (node.nkeys - 0) 0 s t)
 
 abbrev decreases-loop : tie.decreases-loop
 decreases-loop b k node skip left₀ i₀ left i = node.nkeys - i
 
-pub pass-in-spec : {M : Type 1} → statement M
-pass-in-spec =
+pub pass_in_spec : {M : Type 1} → statement M
+pass_in_spec =
     tie.close
     (tie.spec
     invariant-loop
@@ -28,26 +28,26 @@ pass-in-spec =
     (λ c. search leaves)
     (λ c. λ image q e d s t.
     let p = c.before.before.before.loop.invariant image q e d s t in
-    let u = in-that _ _ _ _ _ c.before.before.in_leaf.ensures image q e d in
+    let u = in_that _ _ _ _ _ c.before.before.in_leaf.ensures image q e d in
     search leaves)
     (λ c. search leaves)
     (λ c. λ image q e d s t.
     let p = c.before.before.before.loop.invariant image q e d s t in
-    let u = in-that _ _ _ _ _ c.before.before.in_leaf.ensures image q e d in
+    let u = in_that _ _ _ _ _ c.before.before.in_leaf.ensures image q e d in
     search leaves)
     (λ c. search leaves)
     (λ c. λ image q e d s t.
     let p = c.before.before.before.before.loop.invariant image q e d s t in
-    let u = in-that _ _ _ _ _ c.before.before.before.in_leaf.ensures image q e d in
+    let u = in_that _ _ _ _ _ c.before.before.before.in_leaf.ensures image q e d in
     search leaves)
     (λ c. search leaves)
     (λ c. λ image q e d s t.
     let p = c.before.before.before.before.before.loop.invariant image q e d s t in
-    let u = in-that _ _ _ _ _ c.before.before.before.before.in_leaf.ensures image q e d in
+    let u = in_that _ _ _ _ _ c.before.before.before.before.in_leaf.ensures image q e d in
     search leaves)
     (λ c. search leaves)
     (λ c. search leaves)
     (λ c. λ image q e d s t.
     let p = c.before.before.before.before.before.loop.invariant image q e d s t in
-    let u = in-that _ _ _ _ _ c.before.before.before.before.in_leaf.ensures image q e d in
+    let u = in_that _ _ _ _ _ c.before.before.before.before.in_leaf.ensures image q e d in
     search leaves))

@@ -1,13 +1,13 @@
 use mathlib.Core.Path.{refl}
 use borrow.Author.Rules.{rules}
-use Rattle.node.proofs.Places.{block-under}
+use Rattle.node.proofs.Places.{block_under}
 use Rattle.btree.proofs.skip.pass_leaf.Statement.{statement}
 use Rattle.btree.proofs.skip.pass_leaf.Tie as tie
 
-pub pass-leaf-spec : {M : Type 1} → statement M
-pass-leaf-spec =
+pub pass_leaf_spec : {M : Type 1} → statement M
+pass_leaf_spec =
     tie.close
     (tie.spec
     (λ c κs. search rules)
-    (λ c κs. search (rules, block-under))
+    (λ c κs. search (rules, block_under))
     (λ c. λ s k. c.pass-in.ensures _ _ refl c.before.block.ensures s k))

@@ -9,8 +9,8 @@ invariant-loop kinds k₀ t3 k = k ≤ 418
 abbrev decreases-loop : tie.decreases-loop
 decreases-loop kinds k₀ t3 k = 418 - k
 
-pub print-kinds-spec : {M : Type 1} → statement M
-print-kinds-spec =
+pub print_kinds_spec : {M : Type 1} → statement M
+print_kinds_spec =
     tie.close
     (tie.spec
     invariant-loop

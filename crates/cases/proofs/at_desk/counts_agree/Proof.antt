@@ -8,8 +8,8 @@ invariant-loop input counts i₀ i = i ≤ 8
 abbrev decreases-loop : tie.decreases-loop
 decreases-loop input counts i₀ i = 8 - i
 
-pub counts-agree-spec : {M : Type 1} → statement M
-counts-agree-spec =
+pub counts_agree_spec : {M : Type 1} → statement M
+counts_agree_spec =
     tie.close
     (tie.spec
     invariant-loop

@@ -9,8 +9,8 @@ invariant-loop parts image₀ from₀ to₀ image from to = length image ≡ len
 abbrev decreases-loop : tie.decreases-loop
 decreases-loop parts image₀ from₀ to₀ image from to = length parts - from
 
-pub laid-out-spec : {M : Type 1} → statement M
-laid-out-spec =
+pub laid_out_spec : {M : Type 1} → statement M
+laid_out_spec =
     tie.close
     (tie.spec
     invariant-loop

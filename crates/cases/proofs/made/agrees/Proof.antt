@@ -3,8 +3,8 @@ use Rattle.std.proofs.Common.{sym, arith, length-take-le, rules}
 use Rattle.cases.proofs.made.agrees.Statement.{statement}
 use Rattle.cases.proofs.made.agrees.Tie as tie
 
-pub agrees-spec : {M : Type 1} → statement M
-agrees-spec =
+pub agrees_spec : {M : Type 1} → statement M
+agrees_spec =
     tie.close
     (tie.spec
     (λ c. search rules)

@@ -4,8 +4,8 @@ use Rattle.results.proofs.Results.{negated}
 use Rattle.cases.proofs.made.minus.Statement.{statement}
 use Rattle.cases.proofs.made.minus.Tie as tie
 
-pub minus-spec : {M : Type 1} → statement M
-minus-spec =
+pub minus_spec : {M : Type 1} → statement M
+minus_spec =
     tie.close
     (tie.spec
     (λ c. search rules)

@@ -9,8 +9,8 @@ invariant-loop out₀ x₀ i₀ out x i = (i ≤ length out₀) × (length out �
 abbrev decreases-loop : tie.decreases-loop
 decreases-loop out₀ x₀ i₀ out x i = length out₀ - i
 
-pub written-on-spec : {M : Type 1} → statement M
-written-on-spec =
+pub written_on_spec : {M : Type 1} → statement M
+written_on_spec =
     tie.close
     (tie.spec
     invariant-loop

@@ -3,8 +3,8 @@ use Rattle.checkpoints.proofs.Choice.{blocks}
 use Rattle.checkpoints.proofs.accepted.accepted_block.Statement.{statement}
 use Rattle.checkpoints.proofs.accepted.accepted_block.Tie as tie
 
-pub accepted-block-spec : {M : Type 1} → statement M
-accepted-block-spec =
+pub accepted_block_spec : {M : Type 1} → statement M
+accepted_block_spec =
     tie.close
     (tie.spec
     (λ c κs. search rules)

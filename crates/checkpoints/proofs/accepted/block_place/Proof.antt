@@ -3,8 +3,8 @@ use Rattle.checkpoints.proofs.Choice.{blocks}
 use Rattle.checkpoints.proofs.accepted.block_place.Statement.{statement}
 use Rattle.checkpoints.proofs.accepted.block_place.Tie as tie
 
-pub block-place-spec : {M : Type 1} → statement M
-block-place-spec =
+pub block_place_spec : {M : Type 1} → statement M
+block_place_spec =
     tie.close
     (tie.spec
     (λ c. search rules)

@@ -3,8 +3,8 @@ use Rattle.checkpoints.proofs.NumberTurns.{chosen}
 use Rattle.checkpoints.proofs.by_number.checkpoint_by.Statement.{statement}
 use Rattle.checkpoints.proofs.by_number.checkpoint_by.Tie as tie
 
-pub checkpoint-by-spec : {M : Type 1} → statement M
-checkpoint-by-spec =
+pub checkpoint_by_spec : {M : Type 1} → statement M
+checkpoint_by_spec =
     tie.close
     (tie.spec
     (λ c. search rules)

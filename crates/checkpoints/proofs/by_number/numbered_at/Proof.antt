@@ -3,8 +3,8 @@ use Rattle.checkpoints.proofs.NumberTurns.{numbering}
 use Rattle.checkpoints.proofs.by_number.numbered_at.Statement.{statement}
 use Rattle.checkpoints.proofs.by_number.numbered_at.Tie as tie
 
-pub numbered-at-spec : {M : Type 1} → statement M
-numbered-at-spec =
+pub numbered_at_spec : {M : Type 1} → statement M
+numbered_at_spec =
     tie.close
     (tie.spec
     (λ c κs. search rules)

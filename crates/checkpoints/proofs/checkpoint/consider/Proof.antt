@@ -3,8 +3,8 @@ use Rattle.checkpoints.proofs.Choice.{choices}
 use Rattle.checkpoints.proofs.checkpoint.consider.Statement.{statement}
 use Rattle.checkpoints.proofs.checkpoint.consider.Tie as tie
 
-pub consider-spec : {M : Type 1} → statement M
-consider-spec =
+pub consider_spec : {M : Type 1} → statement M
+consider_spec =
     tie.close
     (tie.spec
     (λ c κs. search rules)

@@ -3,8 +3,8 @@ use Rattle.checkpoints.proofs.Choice.{choices}
 use Rattle.checkpoints.proofs.checkpoint.is_older.Statement.{statement}
 use Rattle.checkpoints.proofs.checkpoint.is_older.Tie as tie
 
-pub is-older-spec : {M : Type 1} → statement M
-is-older-spec =
+pub is_older_spec : {M : Type 1} → statement M
+is_older_spec =
     tie.close
     (tie.spec
     (λ c. search rules)

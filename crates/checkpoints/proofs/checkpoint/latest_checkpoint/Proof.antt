@@ -1,22 +1,22 @@
 use borrow.Author.Rules.{rules}
 use Prim.Native.Nat.{◌+◌, ◌-◌, ◌*◌, ◌^◌, ◌≤◌, ◌<◌}
 use mathlib.Core.Path.{◌≡◌}
-use Rattle.checkpoints.specs.Superblock.{foundTold}
-use Rattle.checkpoints.specs.Checkpoint.{latestIn}
-use Rattle.checkpoints.proofs.Choice.{latest-start, latest-turn, latest-done}
+use Rattle.checkpoints.specs.Superblock.{found_told}
+use Rattle.checkpoints.specs.Checkpoint.{latest_in}
+use Rattle.checkpoints.proofs.Choice.{latest_start, latest_turn, latest_done}
 use Rattle.checkpoints.proofs.checkpoint.latest_checkpoint.Statement.{statement}
 use Rattle.checkpoints.proofs.checkpoint.latest_checkpoint.Tie as tie
 
-ruleset turns = (rules, latest-start, latest-turn, latest-done)
+ruleset turns = (rules, latest_start, latest_turn, latest_done)
 
 abbrev invariant-loop : tie.invariant-loop
-invariant-loop reader image start ring best₀ i₀ best i = (i ≤ ring) × (start + ring * reader.block_size < 2 ^ 64) × (foundTold best ≡ latestIn reader image start ring (ring - i) i)
+invariant-loop reader image start ring best₀ i₀ best i = (i ≤ ring) × (start + ring * reader.block_size < 2 ^ 64) × (found_told best ≡ latest_in reader image start ring (ring - i) i)
 
 abbrev decreases-loop : tie.decreases-loop
 decreases-loop reader image start ring best₀ i₀ best i = i
 
-pub latest-checkpoint-spec : {M : Type 1} → statement M
-latest-checkpoint-spec =
+pub latest_checkpoint_spec : {M : Type 1} → statement M
+latest_checkpoint_spec =
     tie.close
     (tie.spec
     invariant-loop

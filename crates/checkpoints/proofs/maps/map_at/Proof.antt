@@ -1,12 +1,12 @@
 use borrow.Author.Rules.{rules}
-use Rattle.checkpoints.specs.Maps.{checkpointMapAt}
+use Rattle.checkpoints.specs.Maps.{checkpoint_map_at}
 use Rattle.checkpoints.proofs.Laws.{all, parts}
 use Rattle.checkpoints.proofs.maps.map_at.Statement.{statement}
 use Rattle.checkpoints.proofs.maps.map_at.Tie as tie
 
-pub map-at-spec : {M : Type 1} → statement M
-unfolding checkpointMapAt
-map-at-spec =
+pub map_at_spec : {M : Type 1} → statement M
+unfolding checkpoint_map_at
+map_at_spec =
     tie.close
     (tie.spec
     (λ c. search rules)

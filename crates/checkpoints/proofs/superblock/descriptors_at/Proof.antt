@@ -1,12 +1,12 @@
 use borrow.Author.Rules.{rules}
-use Rattle.checkpoints.specs.Superblock.{descriptorsAt}
+use Rattle.checkpoints.specs.Superblock.{descriptors_at}
 use Rattle.checkpoints.proofs.Laws.{all}
 use Rattle.checkpoints.proofs.superblock.descriptors_at.Statement.{statement}
 use Rattle.checkpoints.proofs.superblock.descriptors_at.Tie as tie
 
-pub descriptors-at-spec : {M : Type 1} → statement M
-unfolding descriptorsAt
-descriptors-at-spec =
+pub descriptors_at_spec : {M : Type 1} → statement M
+unfolding descriptors_at
+descriptors_at_spec =
     tie.close
     (tie.spec
     (λ c κs. search rules)

@@ -1,12 +1,12 @@
 use borrow.Author.Rules.{rules}
-use Rattle.checkpoints.specs.Superblock.{superblockAt}
+use Rattle.checkpoints.specs.Superblock.{superblock_at}
 use Rattle.checkpoints.proofs.Laws.{all}
 use Rattle.checkpoints.proofs.superblock.superblock_at.Statement.{statement}
 use Rattle.checkpoints.proofs.superblock.superblock_at.Tie as tie
 
-pub superblock-at-spec : {M : Type 1} → statement M
-unfolding superblockAt
-superblock-at-spec =
+pub superblock_at_spec : {M : Type 1} → statement M
+unfolding superblock_at
+superblock_at_spec =
     tie.close
     (tie.spec
     (λ c κs. search rules)

@@ -9,4 +9,4 @@ put_spec =
     (tie.spec
     (λ c. search rules)
     (λ c. search rules)
-    (λ c. (search rules, simp length-map at c.well-formed.0.1.1.0.1.0.1)))
+    (λ c. (search rules, simp length-map at c.well_formed.0.1.1.0.1.0.1)))

@@ -1,5 +1,5 @@
 use Rattle.btree.proofs.Turns.{turns}
-use Rattle.cursor.proofs.Left.{made, whole_run, known-root, from-root}
+use Rattle.cursor.proofs.Left.{made, whole_run, known_root, from_root}
 use borrow.Author.Rules.{rules}
 use Rattle.cursor.proofs.steps.first.Statement.{statement}
 use Rattle.cursor.proofs.steps.first.Tie as tie
@@ -13,6 +13,6 @@ first_spec =
     (λ c κs. search rules)
     (λ c. search (turns, made, whole_run))
     (λ c κs. search rules)
-    (λ c κs. (search rules, known-root _ _))
+    (λ c κs. (search rules, known_root _ _))
     (λ c κs. search rules)
-    (λ c. search (turns, made, whole_run, from-root)))
+    (λ c. search (turns, made, whole_run, from_root)))

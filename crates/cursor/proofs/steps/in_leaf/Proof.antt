@@ -3,8 +3,8 @@ use borrow.Author.Rules.{rules}
 use Rattle.cursor.proofs.steps.in_leaf.Statement.{statement}
 use Rattle.cursor.proofs.steps.in_leaf.Tie as tie
 
-pub in-leaf-spec : {M : Type 1} → statement M
-in-leaf-spec =
+pub in_leaf_spec : {M : Type 1} → statement M
+in_leaf_spec =
     tie.close
     (tie.spec
     (λ c. search rules)

@@ -1,10 +1,10 @@
 use borrow.Author.Rules.{rules}
-use Rattle.cursor.proofs.Left.{in-whole-no}
+use Rattle.cursor.proofs.Left.{in_whole_no}
 use Rattle.cursor.proofs.steps.in_whole.Statement.{statement}
 use Rattle.cursor.proofs.steps.in_whole.Tie as tie
 
-pub in-whole-spec : {M : Type 1} → statement M
-in-whole-spec =
+pub in_whole_spec : {M : Type 1} → statement M
+in_whole_spec =
     tie.close
     (tie.spec
     (λ c. search rules)
@@ -14,4 +14,4 @@ in-whole-spec =
     (λ c. cc)
     (λ c. search rules)
     (λ c. search rules)
-    (λ c. search (rules, in-whole-no)))
+    (λ c. search (rules, in_whole_no)))

@@ -1,13 +1,13 @@
-use Rattle.cursor.proofs.Ways.{leads-low, leads-own}
+use Rattle.cursor.proofs.Ways.{leads_low, leads_own}
 use borrow.Author.Rules.{rules}
 use Rattle.cursor.proofs.way.begin.Statement.{statement}
 use Rattle.cursor.proofs.way.begin.Tie as tie
 
-pub begin-spec : {M : Type 1} → statement M
-begin-spec =
+pub begin_spec : {M : Type 1} → statement M
+begin_spec =
     tie.close
     (tie.spec
     (λ c κs. search rules)
     (λ c. search rules)
-    (λ c κs. leads-low _ _ _ _ c.before.before.before.before.requires (search rules))
-    (λ c. search (rules, leads-own)))
+    (λ c κs. leads_low _ _ _ _ c.before.before.before.before.requires (search rules))
+    (λ c. search (rules, leads_own)))

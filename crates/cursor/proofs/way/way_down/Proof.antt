@@ -1,7 +1,7 @@
 use Prim.Native.Nat.{◌≤◌}
 use mathlib.Core.Path.{refl}
 use borrow.Author.Rules.{rules}
-use Rattle.cursor.proofs.Ways.{Led, led-high, led-root, led-low, led-here, led-leaf, led-child}
+use Rattle.cursor.proofs.Ways.{Led, led_high, led_root, led_low, led_here, led_leaf, led_child}
 use Rattle.cursor.proofs.way.way_down.Statement.{statement}
 use Rattle.cursor.proofs.way.way_down.Tie as tie
 
@@ -11,10 +11,10 @@ invariant-loop image q nodes m₀ level₀ c₀ n₀ m level c n = (level ≤ 32
 abbrev decreases-loop : tie.decreases-loop
 decreases-loop image q nodes m₀ level₀ c₀ n₀ m level c n = level
 
-ruleset all = (rules, led-high, led-root, led-low, led-here, led-leaf, led-child)
+ruleset all = (rules, led_high, led_root, led_low, led_here, led_leaf, led_child)
 
-pub way-down-spec : {M : Type 1} → statement M
-way-down-spec =
+pub way_down_spec : {M : Type 1} → statement M
+way_down_spec =
     tie.close
     (tie.spec
     invariant-loop
@@ -37,7 +37,7 @@ way-down-spec =
     (λ c κs. search all)
     (λ c. search all)
     (λ c. search all)
-    (λ c. (search rules, led-child _ _ _ _ _ _ _ c.before.before.before.before.before.before.before.before.before.before.loop.invariant.1 _ _ _ _ (search rules) c.before.before.before.before.before.before.before.next-child.ensures c.before.before.before.before.before.turn.given.1 (search rules) (search rules) refl c.put.ensures))
+    (λ c. (search rules, led_child _ _ _ _ _ _ _ c.before.before.before.before.before.before.before.before.before.before.loop.invariant.1 _ _ _ _ (search rules) c.before.before.before.before.before.before.before.next-child.ensures c.before.before.before.before.before.turn.given.1 (search rules) (search rules) refl c.put.ensures))
     (λ c. search all)
     (λ c κs. search all)
     (λ c. search all)

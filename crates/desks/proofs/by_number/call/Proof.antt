@@ -3,8 +3,8 @@ use Rattle.desks.proofs.Numbered.{rows}
 use Rattle.desks.proofs.by_number.call.Statement.{statement}
 use Rattle.desks.proofs.by_number.call.Tie as tie
 
-pub call-spec : {M : Type 1} → statement M
-call-spec =
+pub call_spec : {M : Type 1} → statement M
+call_spec =
     tie.close
     (tie.spec
     (λ c κs. search rules)

@@ -2,8 +2,8 @@ use borrow.Author.Rules.{rules}
 use Rattle.desks.proofs.by_number.call_on_part.Statement.{statement}
 use Rattle.desks.proofs.by_number.call_on_part.Tie as tie
 
-pub call-on-part-spec : {M : Type 1} → statement M
-call-on-part-spec =
+pub call_on_part_spec : {M : Type 1} → statement M
+call_on_part_spec =
     tie.close
     (tie.spec
     (λ c κs. search rules)

@@ -3,8 +3,8 @@ use borrow.Author.Rules.{rules}
 use Rattle.desks.proofs.by_number.checkpoints_of.Statement.{statement}
 use Rattle.desks.proofs.by_number.checkpoints_of.Tie as tie
 
-pub checkpoints-of-spec : {M : Type 1} → statement M
-checkpoints-of-spec =
+pub checkpoints_of_spec : {M : Type 1} → statement M
+checkpoints_of_spec =
     tie.close
     (tie.spec
     (λ c κs. search rules)

@@ -1,13 +1,13 @@
 use borrow.Author.Rules.{rules}
-use Rattle.error.specs.Answer.{ifEq}
-use Rattle.desks.specs.Inner.{restFor}
-use Rattle.desks.proofs.Numbered.{rows, rest_of, rest-none}
+use Rattle.error.specs.Answer.{if_eq}
+use Rattle.desks.specs.Inner.{rest_for}
+use Rattle.desks.proofs.Numbered.{rows, rest_of, rest_none}
 use Rattle.desks.proofs.by_number.other_call.Statement.{statement}
 use Rattle.desks.proofs.by_number.other_call.Tie as tie
 
-pub other-call-spec : {M : Type 1} → statement M
-unfolding restFor ifEq
-other-call-spec =
+pub other_call_spec : {M : Type 1} → statement M
+unfolding rest_for if_eq
+other_call_spec =
     tie.close
     (tie.spec
     (λ c κs. search rules)
@@ -19,4 +19,4 @@ other-call-spec =
     (λ c κs. search rules)
     (λ c. search rules)
     (λ c. rest_of _ _ _ 16 _ c.before.before.before.before.if3.true c.before.before.wrong-words.ensures)
-    (λ c. rest-none _ _ _ c.before.before.if1.false c.before.if2.false c.if3.false))
+    (λ c. rest_none _ _ _ c.before.before.if1.false c.before.if2.false c.if3.false))

@@ -3,8 +3,8 @@ use borrow.Author.Rules.{rules}
 use Rattle.desks.proofs.counts.more.Statement.{statement}
 use Rattle.desks.proofs.counts.more.Tie as tie
 
-pub more-spec : {M : Type 1} → statement M
-more-spec =
+pub more_spec : {M : Type 1} → statement M
+more_spec =
     tie.close
     (tie.spec
     (λ c. search all)

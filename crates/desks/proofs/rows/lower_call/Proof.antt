@@ -1,14 +1,14 @@
 use borrow.Author.Rules.{rules}
-use Rattle.error.specs.Answer.{ifEq}
-use Rattle.desks.specs.Requests.{textBy}
-use Rattle.desks.specs.Inner.{leftBy}
-use Rattle.desks.proofs.Numbered.{row, last-lower}
+use Rattle.error.specs.Answer.{if_eq}
+use Rattle.desks.specs.Requests.{text_by}
+use Rattle.desks.specs.Inner.{left_by}
+use Rattle.desks.proofs.Numbered.{row, last_lower}
 use Rattle.desks.proofs.rows.lower_call.Statement.{statement}
 use Rattle.desks.proofs.rows.lower_call.Tie as tie
 
-pub lower-call-spec : {M : Type 1} → statement M
-unfolding textBy leftBy ifEq
-lower-call-spec =
+pub lower_call_spec : {M : Type 1} → statement M
+unfolding text_by left_by if_eq
+lower_call_spec =
     tie.close
     (tie.spec
     (λ c κs. search rules)
@@ -31,4 +31,4 @@ lower-call-spec =
     (λ c. row _ _ _ _ _ _ _ _ _ _ 5 c.before.before.before.before.if6.true c.before.before.attribute-text.ensures)
     (λ c κs. search rules)
     (λ c. search rules)
-    (λ c. row _ _ _ _ _ _ _ _ _ _ 6 (last-lower _ c.before.before.before.before.before.before.before.before.before.before.before.before.before.requires c.before.before.before.before.before.before.before.before.before.if1.false c.before.before.before.before.before.before.before.before.if2.false c.before.before.before.before.before.before.before.if3.false c.before.before.before.before.before.before.if4.false c.before.before.before.before.before.if5.false c.before.before.before.before.if6.false) c.before.before.link-text.ensures))
+    (λ c. row _ _ _ _ _ _ _ _ _ _ 6 (last_lower _ c.before.before.before.before.before.before.before.before.before.before.before.before.before.requires c.before.before.before.before.before.before.before.before.before.if1.false c.before.before.before.before.before.before.before.before.if2.false c.before.before.before.before.before.before.before.if3.false c.before.before.before.before.before.before.if4.false c.before.before.before.before.before.if5.false c.before.before.before.before.if6.false) c.before.before.link-text.ensures))

@@ -1,14 +1,14 @@
 use borrow.Author.Rules.{rules}
-use Rattle.error.specs.Answer.{ifEq}
-use Rattle.desks.specs.Requests.{textBy}
-use Rattle.desks.specs.Inner.{leftBy}
-use Rattle.desks.proofs.Numbered.{row, last-upper}
+use Rattle.error.specs.Answer.{if_eq}
+use Rattle.desks.specs.Requests.{text_by}
+use Rattle.desks.specs.Inner.{left_by}
+use Rattle.desks.proofs.Numbered.{row, last_upper}
 use Rattle.desks.proofs.rows.upper_call.Statement.{statement}
 use Rattle.desks.proofs.rows.upper_call.Tie as tie
 
-pub upper-call-spec : {M : Type 1} → statement M
-unfolding textBy leftBy ifEq
-upper-call-spec =
+pub upper_call_spec : {M : Type 1} → statement M
+unfolding text_by left_by if_eq
+upper_call_spec =
     tie.close
     (tie.spec
     (λ c κs. search rules)
@@ -32,4 +32,4 @@ upper-call-spec =
     (λ c. row _ _ _ _ _ _ _ _ _ _ 12 c.before.before.before.before.if6.true c.before.before.marked-text.ensures)
     (λ c κs. search rules)
     (λ c. search rules)
-    (λ c. row _ _ _ _ _ _ _ _ _ _ 13 (last-upper _ c.before.before.before.before.before.before.before.before.before.before.before.before.before.requires c.before.before.before.before.before.before.before.before.before.if1.false c.before.before.before.before.before.before.before.before.if2.false c.before.before.before.before.before.before.before.if3.false c.before.before.before.before.before.before.if4.false c.before.before.before.before.before.if5.false c.before.before.before.before.if6.false) c.before.before.replaced-text.ensures))
+    (λ c. row _ _ _ _ _ _ _ _ _ _ 13 (last_upper _ c.before.before.before.before.before.before.before.before.before.before.before.before.before.requires c.before.before.before.before.before.before.before.before.before.if1.false c.before.before.before.before.before.before.before.before.if2.false c.before.before.before.before.before.before.before.if3.false c.before.before.before.before.before.before.if4.false c.before.before.before.before.before.if5.false c.before.before.before.before.if6.false) c.before.before.replaced-text.ensures))

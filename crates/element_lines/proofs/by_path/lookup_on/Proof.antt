@@ -1,12 +1,12 @@
 use borrow.Author.Rules.{rules}
-use Rattle.element_lines.specs.Elements.{lookupOn}
+use Rattle.element_lines.specs.Elements.{lookup_on}
 use Rattle.calls.proofs.Steps.{elements}
 use Rattle.element_lines.proofs.by_path.lookup_on.Statement.{statement}
 use Rattle.element_lines.proofs.by_path.lookup_on.Tie as tie
 
-pub lookup-on-spec : {M : Type 1} → statement M
-unfolding lookupOn
-lookup-on-spec =
+pub lookup_on_spec : {M : Type 1} → statement M
+unfolding lookup_on
+lookup_on_spec =
     tie.close
     (tie.spec
     (λ c κs. search rules)

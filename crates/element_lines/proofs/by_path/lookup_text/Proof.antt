@@ -1,12 +1,12 @@
 use borrow.Author.Rules.{rules}
-use Rattle.element_lines.specs.Elements.{lookupCounted}
+use Rattle.element_lines.specs.Elements.{lookup_counted}
 use Rattle.calls.proofs.Steps.{elements}
 use Rattle.element_lines.proofs.by_path.lookup_text.Statement.{statement}
 use Rattle.element_lines.proofs.by_path.lookup_text.Tie as tie
 
-pub lookup-text-spec : {M : Type 1} → statement M
-unfolding lookupCounted
-lookup-text-spec =
+pub lookup_text_spec : {M : Type 1} → statement M
+unfolding lookup_counted
+lookup_text_spec =
     tie.close
     (tie.spec
     (λ c κs. search rules)

@@ -1,12 +1,12 @@
 use borrow.Author.Rules.{rules}
-use Rattle.element_lines.specs.Elements.{entryOn}
+use Rattle.element_lines.specs.Elements.{entry_on}
 use Rattle.calls.proofs.Steps.{elements}
 use Rattle.element_lines.proofs.entry.entry_on.Statement.{statement}
 use Rattle.element_lines.proofs.entry.entry_on.Tie as tie
 
-pub entry-on-spec : {M : Type 1} → statement M
-unfolding entryOn
-entry-on-spec =
+pub entry_on_spec : {M : Type 1} → statement M
+unfolding entry_on
+entry_on_spec =
     tie.close
     (tie.spec
     (λ c κs. search rules)

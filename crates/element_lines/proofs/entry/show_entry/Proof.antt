@@ -1,10 +1,10 @@
 use borrow.Author.Rules.{rules}
-use Rattle.calls.proofs.Filling.{filled-short, filled-written}
+use Rattle.calls.proofs.Filling.{filled_short, filled_written}
 use Rattle.element_lines.proofs.entry.show_entry.Statement.{statement}
 use Rattle.element_lines.proofs.entry.show_entry.Tie as tie
 
-pub show-entry-spec : {M : Type 1} → statement M
-show-entry-spec =
+pub show_entry_spec : {M : Type 1} → statement M
+show_entry_spec =
     tie.close
     (tie.spec
     (λ c. search rules)
@@ -14,6 +14,6 @@ show-entry-spec =
     (λ c. search rules)
     (λ c κs. search rules)
     (λ c. search rules)
-    (λ c. filled-short _ _ c.before.before.before.before.before.put-entry-line.new.0 _ c.before.before.before.before.before.put-entry-line.auto.0 c.before.before.before.before.before.put-entry-line.ensures _ c.before.w.given.1)
+    (λ c. filled_short _ _ c.before.before.before.before.before.put-entry-line.new.0 _ c.before.before.before.before.before.put-entry-line.auto.0 c.before.before.before.before.before.put-entry-line.ensures _ c.before.w.given.1)
     (λ c. search rules)
-    (λ c. filled-written _ _ c.before.before.before.before.before.before.before.before.put-entry-line.new.0 _ c.before.before.before.before.before.before.before.before.put-entry-line.auto.0 c.before.before.before.before.before.before.before.before.put-entry-line.ensures _ c.before.before.put-entry-line2.result c.before.before.put-entry-line2.new.0 c.before.before.before.before.enum_told.given.1 c.before.before.put-entry-line2.ensures))
+    (λ c. filled_written _ _ c.before.before.before.before.before.before.before.before.put-entry-line.new.0 _ c.before.before.before.before.before.before.before.before.put-entry-line.auto.0 c.before.before.before.before.before.before.before.before.put-entry-line.ensures _ c.before.before.put-entry-line2.result c.before.before.put-entry-line2.new.0 c.before.before.before.before.enum_told.given.1 c.before.before.put-entry-line2.ensures))

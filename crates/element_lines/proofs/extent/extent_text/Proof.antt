@@ -1,12 +1,12 @@
 use borrow.Author.Rules.{rules}
-use Rattle.element_lines.specs.Elements.{extentCounted}
+use Rattle.element_lines.specs.Elements.{extent_counted}
 use Rattle.calls.proofs.Steps.{elements}
 use Rattle.element_lines.proofs.extent.extent_text.Statement.{statement}
 use Rattle.element_lines.proofs.extent.extent_text.Tie as tie
 
-pub extent-text-spec : {M : Type 1} → statement M
-unfolding extentCounted
-extent-text-spec =
+pub extent_text_spec : {M : Type 1} → statement M
+unfolding extent_counted
+extent_text_spec =
     tie.close
     (tie.spec
     (λ c κs. search rules)

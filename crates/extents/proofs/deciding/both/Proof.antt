@@ -3,8 +3,8 @@ use borrow.Author.Rules.{rules}
 use Rattle.extents.proofs.deciding.both.Statement.{statement}
 use Rattle.extents.proofs.deciding.both.Tie as tie
 
-pub both-spec : {M : Type 1} → statement M
-both-spec =
+pub both_spec : {M : Type 1} → statement M
+both_spec =
     tie.close
     (tie.spec
     (λ c. search rules)

@@ -2,7 +2,7 @@ use mathlib.Core.Path.{refl}
 use Rattle.error.specs.Answer.{pick}
 use Rattle.cursor.specs.Left.{run_at}
 use Rattle.cursor.proofs.Through.{rest}
-use Rattle.extents.proofs.JudgeTurns.{turns, Going, kept_same, judge-start, judge-end, judge-passed, judge-near, judge-far, by-start, by-later}
+use Rattle.extents.proofs.JudgeTurns.{turns, Going, kept_same, judge_start, judge_end, judge_passed, judge_near, judge_far, by_start, by_later}
 use Rattle.extents.proofs.deciding.judge_from.Statement.{statement}
 use Rattle.extents.proofs.deciding.judge_from.Tie as tie
 
@@ -13,19 +13,19 @@ invariant-loop image q off stop keys reader j₀ s₀ i₀ kept₀ from₀ here�
 abbrev decreases-loop : tie.decreases-loop
 decreases-loop image q off stop keys reader j₀ s₀ i₀ kept₀ from₀ here₀ j s i kept from here = rest image q s i
 
-pub judge-from-spec : {M : Type 1} → statement M
-judge-from-spec =
+pub judge_from_spec : {M : Type 1} → statement M
+judge_from_spec =
     tie.close
     (tie.spec
     invariant-loop
     decreases-loop
-    (λ c. judge-start _ _ _ _ _ _ refl)
+    (λ c. judge_start _ _ _ _ _ _ refl)
     (λ c κs. search turns)
     (λ c. search turns)
     (λ c κs. search turns)
     (λ c κs. search turns)
     (λ c κs. search turns)
-    (λ c. judge-end _ _ _ _ _ _ _ _ _ c.before.before.before.before.before.before.loop.invariant _ c.before.before.before.before.before.extent-in.ensures (search turns) _ _ _ _ (kept_same _ _ _ _ _ c.before.kept_of.ensures) c.before.before.closed.ensures c.answer.ensures)
+    (λ c. judge_end _ _ _ _ _ _ _ _ _ c.before.before.before.before.before.before.loop.invariant _ c.before.before.before.before.before.extent-in.ensures (search turns) _ _ _ _ (kept_same _ _ _ _ _ c.before.kept_of.ensures) c.before.before.closed.ensures c.answer.ensures)
     (λ c. search turns)
     (λ c κs. search turns)
     (λ c. search turns)
@@ -33,11 +33,11 @@ judge-from-spec =
     (λ c κs. search turns)
     (λ c κs. search turns)
     (λ c. search turns)
-    (λ c. rw c.before.before.kept-of2.ensures (judge-passed _ _ _ _ _ _ _ _ _ c.before.before.before.before.before.before.loop.invariant _ c.before.before.before.before.before.extent-in.ensures (search turns) _ c.next.ensures))
+    (λ c. rw c.before.before.kept-of2.ensures (judge_passed _ _ _ _ _ _ _ _ _ c.before.before.before.before.before.before.loop.invariant _ c.before.before.before.before.before.extent-in.ensures (search turns) _ c.next.ensures))
     (λ c. search turns)
     (λ c κs. search turns)
     (λ c κs. search turns)
     (λ c. search turns)
-    (λ c. judge-near _ _ _ _ _ _ _ _ _ c.before.before.before.before.before.before.before.loop.invariant _ c.before.before.before.before.before.before.extent-in.ensures _ _ (search turns) _ c.before.before.one_more.ensures (by-start _ _ _ c.before.begins-by.ensures (search turns)))
+    (λ c. judge_near _ _ _ _ _ _ _ _ _ c.before.before.before.before.before.before.before.loop.invariant _ c.before.before.before.before.before.before.extent-in.ensures _ _ (search turns) _ c.before.before.one_more.ensures (by_start _ _ _ c.before.begins-by.ensures (search turns)))
     (λ c. search turns)
-    (λ c. judge-far _ _ _ _ _ _ _ _ _ c.before.before.before.before.before.before.before.loop.invariant _ c.before.before.before.before.before.before.extent-in.ensures _ _ (search turns) _ c.before.before.one_more.ensures (by-later _ _ _ c.before.begins-by.ensures (search turns))))
+    (λ c. judge_far _ _ _ _ _ _ _ _ _ c.before.before.before.before.before.before.before.loop.invariant _ c.before.before.before.before.before.before.extent-in.ensures _ _ (search turns) _ c.before.before.one_more.ensures (by_later _ _ _ c.before.begins-by.ensures (search turns))))

@@ -1,16 +1,16 @@
 use borrow.Author.Rules.{rules}
 use native.Mathlib.Omega.{arith}
-use Rattle.extents.proofs.VerdictLaws.{lies-8, lies-1, lies-fine}
+use Rattle.extents.proofs.VerdictLaws.{lies_8, lies_1, lies_fine}
 use Rattle.extents.proofs.verdict.lies_at.Statement.{statement}
 use Rattle.extents.proofs.verdict.lies_at.Tie as tie
 
-pub lies-at-spec : {M : Type 1} → statement M
-lies-at-spec =
+pub lies_at_spec : {M : Type 1} → statement M
+lies_at_spec =
     tie.close
     (tie.spec
     (λ c κs. search rules)
     (λ c. search rules)
-    (λ c. lies-8 _ _ _ _ c.before.block_size.ensures (omega arith) (omega arith))
+    (λ c. lies_8 _ _ _ _ c.before.block_size.ensures (omega arith) (omega arith))
     (λ c. search rules)
-    (λ c. lies-1 _ _ _ _ c.before.before.block_size.ensures (omega arith) (omega arith) (omega arith))
-    (λ c. lies-fine _ _ _ _ c.before.before.block_size.ensures (omega arith) (omega arith) (omega arith)))
+    (λ c. lies_1 _ _ _ _ c.before.before.block_size.ensures (omega arith) (omega arith) (omega arith))
+    (λ c. lies_fine _ _ _ _ c.before.before.block_size.ensures (omega arith) (omega arith) (omega arith)))

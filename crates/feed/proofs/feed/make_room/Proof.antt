@@ -3,8 +3,8 @@ use Rattle.feed.proofs.Feeding.{all}
 use Rattle.feed.proofs.feed.make_room.Statement.{statement}
 use Rattle.feed.proofs.feed.make_room.Tie as tie
 
-pub make-room-spec : {M : Type 1} → statement M
-make-room-spec =
+pub make_room_spec : {M : Type 1} → statement M
+make_room_spec =
     tie.close
     (tie.spec
     (λ c. search rules)

@@ -13,8 +13,8 @@ invariant-loop out₀ room bytes g₀ i₀ out g i = (i ≤ length bytes) × ((x
 abbrev decreases-loop : tie.decreases-loop
 decreases-loop out₀ room bytes g₀ i₀ out g i = length bytes - i
 
-pub push-all-spec : {M : Type 1} → statement M
-push-all-spec =
+pub push_all_spec : {M : Type 1} → statement M
+push_all_spec =
     tie.close
     (tie.spec
     invariant-loop

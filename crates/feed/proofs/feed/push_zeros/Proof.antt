@@ -3,8 +3,8 @@ use Rattle.feed.proofs.Feeding.{all}
 use Rattle.feed.proofs.feed.push_zeros.Statement.{statement}
 use Rattle.feed.proofs.feed.push_zeros.Tie as tie
 
-pub push-zeros-spec : {M : Type 1} → statement M
-push-zeros-spec =
+pub push_zeros_spec : {M : Type 1} → statement M
+push_zeros_spec =
     tie.close
     (tie.spec
     (λ c. search all)

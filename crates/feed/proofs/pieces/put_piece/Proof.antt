@@ -3,8 +3,8 @@ use Rattle.feed.proofs.Reading.{all}
 use Rattle.feed.proofs.pieces.put_piece.Statement.{statement}
 use Rattle.feed.proofs.pieces.put_piece.Tie as tie
 
-pub put-piece-spec : {M : Type 1} → statement M
-put-piece-spec =
+pub put_piece_spec : {M : Type 1} → statement M
+put_piece_spec =
     tie.close
     (tie.spec
     (λ c κs. search rules)

@@ -3,8 +3,8 @@ use Rattle.feed.proofs.Reading.{all}
 use Rattle.feed.proofs.pieces.put_whole.Statement.{statement}
 use Rattle.feed.proofs.pieces.put_whole.Tie as tie
 
-pub put-whole-spec : {M : Type 1} → statement M
-put-whole-spec =
+pub put_whole_spec : {M : Type 1} → statement M
+put_whole_spec =
     tie.close
     (tie.spec
     (λ c. search all)

@@ -3,8 +3,8 @@ use Rattle.feed.proofs.Windows.{windows}
 use Rattle.feed.proofs.window.with.Statement.{statement}
 use Rattle.feed.proofs.window.with.Tie as tie
 
-pub with-spec : {M : Type 1} → statement M
-with-spec =
+pub with_spec : {M : Type 1} → statement M
+with_spec =
     tie.close
     (tie.spec
     (λ c. search rules)

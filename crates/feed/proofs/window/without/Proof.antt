@@ -13,8 +13,8 @@ invariant-loop n w r₀ i₀ r i = (i ≤ 4 - n) × (take i r.bytes ≡ take i (
 abbrev decreases-loop : tie.decreases-loop
 decreases-loop n w r₀ i₀ r i = 4 - n - i
 
-pub without-spec : {M : Type 1} → statement M
-without-spec =
+pub without_spec : {M : Type 1} → statement M
+without_spec =
     tie.close
     (tie.spec
     invariant-loop

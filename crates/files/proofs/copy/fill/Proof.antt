@@ -5,18 +5,18 @@ use mathlib.Core.Path.{◌≡◌}
 use lib.ListN.{length}
 use Rattle.cursor.specs.Left.{run_at}
 use Rattle.cursor.proofs.Through.{rest}
-use Rattle.records.specs.Extent.{extentAt}
+use Rattle.records.specs.Extent.{extent_at}
 use Rattle.lists.specs.Inner.{readable}
-use Rattle.lists.proofs.Turns.{seens, extent-one}
-use Rattle.extents.specs.Extents.{diskOf}
+use Rattle.lists.proofs.Turns.{seens, extent_one}
+use Rattle.extents.specs.Extents.{disk_of}
 use Rattle.files.specs.Inner.{lay}
-use Rattle.files.proofs.CopyTurns.{fills, Filling, fill-whole, fill-over, fill-no, fill-halt, fill-allows}
+use Rattle.files.proofs.CopyTurns.{fills, Filling, fill_whole, fill_over, fill_no, fill_halt, fill_allows}
 use Rattle.files.proofs.copy.fill.Statement.{statement}
 use Rattle.files.proofs.copy.fill.Tie as tie
 
 abbrev invariant-loop : tie.invariant-loop
 invariant-loop image q off out₀ from keys reader stop s₀ i₀ out s i =
-    (stop ≡ off + length out₀) × Filling image q off (length out₀) s i out (lay (diskOf q.keys.reader image) off (readable (extentAt q.keys.reader image) (run_at image q s₀ i₀)) out₀)
+    (stop ≡ off + length out₀) × Filling image q off (length out₀) s i out (lay (disk_of q.keys.reader image) off (readable (extent_at q.keys.reader image) (run_at image q s₀ i₀)) out₀)
 
 abbrev decreases-loop : tie.decreases-loop
 decreases-loop image q off out₀ from keys reader stop s₀ i₀ out s i = rest image q s i
@@ -33,17 +33,17 @@ fill_spec =
     (λ c κs. search fills)
     (λ c. search fills)
     (λ c. search fills)
-    (λ c. fill-whole _ _ (length c.before.before.before.before.before.before.before.before.before.before.before.before.args.out.now) _ _ c.before.before.before.before.before.before.before.before.clear.ensures _ (search (rules, seens, fill-over)))
+    (λ c. fill_whole _ _ (length c.before.before.before.before.before.before.before.before.before.before.before.before.args.out.now) _ _ c.before.before.before.before.before.before.before.before.clear.ensures _ (search (rules, seens, fill_over)))
     (λ c. search fills)
     (λ c. search fills)
-    (λ c. fill-whole _ _ (length c.before.before.before.before.before.before.before.before.before.before.before.before.args.out.now) _ _ c.before.before.before.before.before.before.before.before.clear.ensures _ (search (rules, seens, fill-no)))
+    (λ c. fill_whole _ _ (length c.before.before.before.before.before.before.before.before.before.before.before.before.args.out.now) _ _ c.before.before.before.before.before.before.before.before.clear.ensures _ (search (rules, seens, fill_no)))
     (λ c. search fills)
     (λ c κs. search fills)
     (λ c. search fills)
     (λ c. search fills)
     (λ c. search fills)
     (λ c. search fills)
-    (λ c. fill-whole _ _ (length c.before.before.before.before.before.before.before.before.before.before.before.before.before.before.before.args.out.now) _ _ c.before.before.before.before.before.before.before.before.before.before.before.clear.ensures _ (search (rules, seens, fill-halt)))
-    (λ c κs. (omega (arith, c.before.before.before.before.before.before.before.before.before.before.before.before.before.before.before.before.requires.0, c.before.before.before.before.before.before.before.loop.invariant.1.same), fill-allows _ _ _ _ _ _ _ _ c.before.before.before.before.before.before.before.loop.invariant.1 _ c.before.before.before.before.before.before.extent-in.ensures _ _ (extent-one _ _ _ c.before.before.before.before.e.given.1) (omega (arith, c.before.before.before.before.before.before.before.loop.invariant.0, c.before.if1.false))))
+    (λ c. fill_whole _ _ (length c.before.before.before.before.before.before.before.before.before.before.before.before.before.before.before.args.out.now) _ _ c.before.before.before.before.before.before.before.before.before.before.before.clear.ensures _ (search (rules, seens, fill_halt)))
+    (λ c κs. (omega (arith, c.before.before.before.before.before.before.before.before.before.before.before.before.before.before.before.before.requires.0, c.before.before.before.before.before.before.before.loop.invariant.1.same), fill_allows _ _ _ _ _ _ _ _ c.before.before.before.before.before.before.before.loop.invariant.1 _ c.before.before.before.before.before.before.extent-in.ensures _ _ (extent_one _ _ _ c.before.before.before.before.e.given.1) (omega (arith, c.before.before.before.before.before.before.before.loop.invariant.0, c.before.if1.false))))
     (λ c. search fills)
     (λ c. search fills))

@@ -1,19 +1,19 @@
 use borrow.Author.Rules.{rules}
 use native.Mathlib.Omega.{arith}
-use Rattle.files.proofs.PasteLaws.{sum-end, source, lay-nothing, lay-sparse, lay-pasted}
+use Rattle.files.proofs.PasteLaws.{sum_end, source, lay_nothing, lay_sparse, lay_pasted}
 use Rattle.files.proofs.copy.lay_at.Statement.{statement}
 use Rattle.files.proofs.copy.lay_at.Tie as tie
 
-pub lay-at-spec : {M : Type 1} → statement M
-lay-at-spec =
+pub lay_at_spec : {M : Type 1} → statement M
+lay_at_spec =
     tie.close
     (tie.spec
     (λ c. search rules)
     (λ c κs. search rules)
-    (λ c. sum-end _ _ _ _ c.before.before.before.before.requires.1)
+    (λ c. sum_end _ _ _ _ c.before.before.before.before.requires.1)
     (λ c κs. search rules)
-    (λ c. lay-nothing _ _ _ _ (omega arith))
-    (λ c. lay-sparse _ _ _ _ (omega arith))
+    (λ c. lay_nothing _ _ _ _ (omega arith))
+    (λ c. lay_sparse _ _ _ _ (omega arith))
     (λ c κs. search rules)
     (λ c. omega (arith, source _ _ _ _ _ _ _ c.before.before.before.before.before.before.before.before.before.before.requires.1 c.before.before.before.before.before.before.before.larger.ensures c.before.before.before.before.before.smaller.ensures (omega arith) (λ q. omega arith) c.before.block_size.ensures (omega arith)))
     (λ c. search rules)
@@ -22,4 +22,4 @@ lay-at-spec =
     (λ c. search rules)
     (λ c κs. (omega arith, source _ _ _ _ _ _ _ c.before.before.before.before.before.before.before.before.before.before.before.before.requires.1 c.before.before.before.before.before.before.before.before.before.larger.ensures c.before.before.before.before.before.before.before.smaller.ensures (omega arith) (λ q. omega arith) c.before.before.before.block_size.ensures (omega arith)))
     (λ c. search rules)
-    (λ c. lay-pasted _ _ _ _ _ _ _ _ c.before.before.before.before.before.before.before.before.before.before.before.before.before.before.before.requires.1 c.before.before.before.before.before.before.before.before.before.before.before.before.larger.ensures c.before.before.before.before.before.before.before.before.before.before.smaller.ensures (omega arith) (λ q. omega arith) c.before.before.before.before.before.before.block_size.ensures (omega arith) c.before.before.paste-at.ensures))
+    (λ c. lay_pasted _ _ _ _ _ _ _ _ c.before.before.before.before.before.before.before.before.before.before.before.before.before.before.before.requires.1 c.before.before.before.before.before.before.before.before.before.before.before.before.larger.ensures c.before.before.before.before.before.before.before.before.before.before.smaller.ensures (omega arith) (λ q. omega arith) c.before.before.before.before.before.before.block_size.ensures (omega arith) c.before.before.paste-at.ensures))

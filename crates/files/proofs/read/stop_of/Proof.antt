@@ -3,8 +3,8 @@ use Rattle.error.proofs.Laws.{tests}
 use Rattle.files.proofs.read.stop_of.Statement.{statement}
 use Rattle.files.proofs.read.stop_of.Tie as tie
 
-pub stop-of-spec : {M : Type 1} → statement M
-stop-of-spec =
+pub stop_of_spec : {M : Type 1} → statement M
+stop_of_spec =
     tie.close
     (tie.spec
     (λ c. search (rules, tests))

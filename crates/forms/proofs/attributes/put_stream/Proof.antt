@@ -3,8 +3,8 @@ use Rattle.forms.proofs.Lines.{all}
 use Rattle.forms.proofs.attributes.put_stream.Statement.{statement}
 use Rattle.forms.proofs.attributes.put_stream.Tie as tie
 
-pub put-stream-spec : {M : Type 1} → statement M
-put-stream-spec =
+pub put_stream_spec : {M : Type 1} → statement M
+put_stream_spec =
     tie.close
     (tie.spec
     (λ c κs. search rules)

@@ -3,8 +3,8 @@ use Rattle.forms.proofs.Lines.{all}
 use Rattle.forms.proofs.attributes.put_streamed.Statement.{statement}
 use Rattle.forms.proofs.attributes.put_streamed.Tie as tie
 
-pub put-streamed-spec : {M : Type 1} → statement M
-put-streamed-spec =
+pub put_streamed_spec : {M : Type 1} → statement M
+put_streamed_spec =
     tie.close
     (tie.spec
     (λ c κs. search rules)

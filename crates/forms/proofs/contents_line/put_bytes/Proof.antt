@@ -1,10 +1,10 @@
 use borrow.Author.Rules.{rules}
-use Rattle.forms.proofs.Lines.{file-line}
+use Rattle.forms.proofs.Lines.{file_line}
 use Rattle.forms.proofs.contents_line.put_bytes.Statement.{statement}
 use Rattle.forms.proofs.contents_line.put_bytes.Tie as tie
 
-pub put-bytes-spec : {M : Type 1} → statement M
-put-bytes-spec =
+pub put_bytes_spec : {M : Type 1} → statement M
+put_bytes_spec =
     tie.close
     (tie.spec
     (λ c κs. search rules)
@@ -14,4 +14,4 @@ put-bytes-spec =
     (λ c. search rules)
     (λ c κs. search rules)
     (λ c. search rules)
-    (λ c. search (rules, file-line)))
+    (λ c. search (rules, file_line)))

@@ -3,8 +3,8 @@ use Rattle.forms.proofs.Heads.{heads}
 use Rattle.forms.proofs.head.settle_attributes.Statement.{statement}
 use Rattle.forms.proofs.head.settle_attributes.Tie as tie
 
-pub settle-attributes-spec : {M : Type 1} → statement M
-settle-attributes-spec =
+pub settle_attributes_spec : {M : Type 1} → statement M
+settle_attributes_spec =
     tie.close
     (tie.spec
     (λ c. search rules)

@@ -3,8 +3,8 @@ use Rattle.forms.proofs.Heads.{heads}
 use Rattle.forms.proofs.head.settle_entries.Statement.{statement}
 use Rattle.forms.proofs.head.settle_entries.Tie as tie
 
-pub settle-entries-spec : {M : Type 1} → statement M
-settle-entries-spec =
+pub settle_entries_spec : {M : Type 1} → statement M
+settle_entries_spec =
     tie.close
     (tie.spec
     (λ c. search rules)

@@ -1,5 +1,5 @@
 use borrow.Author.Rules.{rules}
-use Rattle.forms.proofs.After.{readings-left}
+use Rattle.forms.proofs.After.{readings_left}
 use Rattle.forms.proofs.reading.read.Statement.{statement}
 use Rattle.forms.proofs.reading.read.Tie as tie
 
@@ -12,6 +12,6 @@ read_spec =
     (λ c. search rules)
     (λ c. search rules)
     (λ c. search rules)
-    (λ c. search readings-left)
-    (λ c. search readings-left)
-    (λ c. search readings-left))
+    (λ c. search readings_left)
+    (λ c. search readings_left)
+    (λ c. search readings_left))

@@ -2,8 +2,8 @@ use Rattle.gpt.proofs.Sums.{sums}
 use Rattle.gpt.proofs.crc32.header_crc.Statement.{statement}
 use Rattle.gpt.proofs.crc32.header_crc.Tie as tie
 
-pub header-crc-spec : {M : Type 1} → statement M
-header-crc-spec =
+pub header_crc_spec : {M : Type 1} → statement M
+header_crc_spec =
     tie.close
     (tie.spec
     (λ c κs. search sums)

@@ -1,14 +1,14 @@
 -- `gpt::table` meets its contract: the test of the table's rule is computed here, over the code's own table.
-use Rattle.error.specs.Answer.{ifEq}
+use Rattle.error.specs.Answer.{if_eq}
 use Rattle.crc.specs.Crc.{shift, shifts}
-use Rattle.crc.proofs.Tables.{table-rule}
+use Rattle.crc.proofs.Tables.{table_rule_lem}
 use Rattle.gpt.specs.Table.{ieee}
 use Rattle.gpt.proofs.crc32.table.Statement.{statement}
 use Rattle.gpt.proofs.crc32.table.Tie as tie
 
-pub table-spec : {M : Type 1} → statement M
-unfolding shift shifts ifEq
-table-spec =
+pub table_spec : {M : Type 1} → statement M
+unfolding shift shifts if_eq
+table_spec =
     tie.close
     (tie.spec
-    (λ c. table-rule ieee _ tt tt))
+    (λ c. table_rule_lem ieee _ tt tt))

@@ -2,8 +2,8 @@ use Rattle.gpt.proofs.Headers.{headers}
 use Rattle.gpt.proofs.header.header_intact.Statement.{statement}
 use Rattle.gpt.proofs.header.header_intact.Tie as tie
 
-pub header-intact-spec : {M : Type 1} → statement M
-header-intact-spec =
+pub header_intact_spec : {M : Type 1} → statement M
+header_intact_spec =
     tie.close
     (tie.spec
     (λ c κs. search headers)

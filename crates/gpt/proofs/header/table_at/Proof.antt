@@ -2,8 +2,8 @@ use Rattle.gpt.proofs.Headers.{headers}
 use Rattle.gpt.proofs.header.table_at.Statement.{statement}
 use Rattle.gpt.proofs.header.table_at.Tie as tie
 
-pub table-at-spec : {M : Type 1} → statement M
-table-at-spec =
+pub table_at_spec : {M : Type 1} → statement M
+table_at_spec =
     tie.close
     (tie.spec
     (λ c κs. search headers)

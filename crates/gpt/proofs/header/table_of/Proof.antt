@@ -2,8 +2,8 @@ use Rattle.gpt.proofs.Headers.{headers}
 use Rattle.gpt.proofs.header.table_of.Statement.{statement}
 use Rattle.gpt.proofs.header.table_of.Tie as tie
 
-pub table-of-spec : {M : Type 1} → statement M
-table-of-spec =
+pub table_of_spec : {M : Type 1} → statement M
+table_of_spec =
     tie.close
     (tie.spec
     (λ c κs. search headers)

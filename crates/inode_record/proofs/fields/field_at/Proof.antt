@@ -4,9 +4,9 @@ use Rattle.inode_record.proofs.Laws.{all}
 use Rattle.inode_record.proofs.fields.field_at.Statement.{statement}
 use Rattle.inode_record.proofs.fields.field_at.Tie as tie
 
-pub field-at-spec : {M : Type 1} → statement M
+pub field_at_spec : {M : Type 1} → statement M
 unfolding field_at
-field-at-spec =
+field_at_spec =
     tie.close
     (tie.spec
     (λ c κs. search rules)

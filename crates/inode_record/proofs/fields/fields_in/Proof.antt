@@ -1,13 +1,13 @@
 use borrow.Author.Rules.{rules}
-use Rattle.inode_record.specs.Fields.{fieldsIn}
+use Rattle.inode_record.specs.Fields.{fields_in}
 use Rattle.inode_record.proofs.Laws.{all}
 use Rattle.inode_record.proofs.Turns.{few}
 use Rattle.inode_record.proofs.fields.fields_in.Statement.{statement}
 use Rattle.inode_record.proofs.fields.fields_in.Tie as tie
 
-pub fields-in-spec : {M : Type 1} → statement M
-unfolding fieldsIn
-fields-in-spec =
+pub fields_in_spec : {M : Type 1} → statement M
+unfolding fields_in
+fields_in_spec =
     tie.close
     (tie.spec
     (λ c. search all)

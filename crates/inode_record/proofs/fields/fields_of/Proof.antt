@@ -9,8 +9,8 @@ invariant-loop v n f₀ i₀ off₀ f i off = Going v n i off f
 abbrev decreases-loop : tie.decreases-loop
 decreases-loop v n f₀ i₀ off₀ f i off = n - i
 
-pub fields-of-spec : {M : Type 1} → statement M
-fields-of-spec =
+pub fields_of_spec : {M : Type 1} → statement M
+fields_of_spec =
     tie.close
     (tie.spec
     invariant-loop

@@ -3,8 +3,8 @@ use Rattle.inode_record.proofs.Turns.{merging}
 use Rattle.inode_record.proofs.fields.later_name.Statement.{statement}
 use Rattle.inode_record.proofs.fields.later_name.Tie as tie
 
-pub later-name-spec : {M : Type 1} → statement M
-later-name-spec =
+pub later_name_spec : {M : Type 1} → statement M
+later_name_spec =
     tie.close
     (tie.spec
     (λ c. search rules)

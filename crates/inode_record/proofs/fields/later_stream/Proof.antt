@@ -3,8 +3,8 @@ use Rattle.inode_record.proofs.Turns.{merging}
 use Rattle.inode_record.proofs.fields.later_stream.Statement.{statement}
 use Rattle.inode_record.proofs.fields.later_stream.Tie as tie
 
-pub later-stream-spec : {M : Type 1} → statement M
-later-stream-spec =
+pub later_stream_spec : {M : Type 1} → statement M
+later_stream_spec =
     tie.close
     (tie.spec
     (λ c. search rules)

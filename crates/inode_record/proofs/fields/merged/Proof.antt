@@ -3,8 +3,8 @@ use Rattle.inode_record.proofs.Turns.{merging}
 use Rattle.inode_record.proofs.fields.merged.Statement.{statement}
 use Rattle.inode_record.proofs.fields.merged.Tie as tie
 
-pub merged-spec : {M : Type 1} → statement M
-merged-spec =
+pub merged_spec : {M : Type 1} → statement M
+merged_spec =
     tie.close
     (tie.spec
     (λ c κs. search rules)

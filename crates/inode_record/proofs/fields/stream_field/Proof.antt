@@ -1,12 +1,12 @@
 use borrow.Author.Rules.{rules}
-use Rattle.inode_record.specs.Fields.{streamField}
+use Rattle.inode_record.specs.Fields.{stream_field}
 use Rattle.inode_record.proofs.Laws.{all}
 use Rattle.inode_record.proofs.fields.stream_field.Statement.{statement}
 use Rattle.inode_record.proofs.fields.stream_field.Tie as tie
 
-pub stream-field-spec : {M : Type 1} → statement M
-unfolding streamField
-stream-field-spec =
+pub stream_field_spec : {M : Type 1} → statement M
+unfolding stream_field
+stream_field_spec =
     tie.close
     (tie.spec
     (λ c κs. search rules)

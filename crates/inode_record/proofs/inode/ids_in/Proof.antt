@@ -4,9 +4,9 @@ use Rattle.inode_record.proofs.Laws.{all}
 use Rattle.inode_record.proofs.inode.ids_in.Statement.{statement}
 use Rattle.inode_record.proofs.inode.ids_in.Tie as tie
 
-pub ids-in-spec : {M : Type 1} → statement M
+pub ids_in_spec : {M : Type 1} → statement M
 unfolding ids_in
-ids-in-spec =
+ids_in_spec =
     tie.close
     (tie.spec
     (λ c κs. search rules)

@@ -1,12 +1,12 @@
 use borrow.Author.Rules.{rules}
-use Rattle.inode_record.specs.Inode.{inodeAt}
+use Rattle.inode_record.specs.Inode.{inode_at}
 use Rattle.inode_record.proofs.Laws.{all, parts}
 use Rattle.inode_record.proofs.inode.inode_at.Statement.{statement}
 use Rattle.inode_record.proofs.inode.inode_at.Tie as tie
 
-pub inode-at-spec : {M : Type 1} → statement M
-unfolding inodeAt
-inode-at-spec =
+pub inode_at_spec : {M : Type 1} → statement M
+unfolding inode_at
+inode_at_spec =
     tie.close
     (tie.spec
     (λ c κs. search rules)

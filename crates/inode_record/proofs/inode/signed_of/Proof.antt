@@ -3,8 +3,8 @@ use Rattle.inode_record.proofs.Signs.{signs}
 use Rattle.inode_record.proofs.inode.signed_of.Statement.{statement}
 use Rattle.inode_record.proofs.inode.signed_of.Tie as tie
 
-pub signed-of-spec : {M : Type 1} → statement M
-signed-of-spec =
+pub signed_of_spec : {M : Type 1} → statement M
+signed_of_spec =
     tie.close
     (tie.spec
     (λ c. search rules)

@@ -1,12 +1,12 @@
 use borrow.Author.Rules.{rules}
 use Rattle.keys.proofs.characters.by_piece.Statement.{statement}
 use Rattle.keys.proofs.characters.by_piece.Tie as tie
-use Rattle.keys.proofs.Scalars.{piece-fits, at-end, at-whole, at_part}
+use Rattle.keys.proofs.Scalars.{piece_fits, at_end, at_whole, at_part}
 
-ruleset turns = (rules, piece-fits, at-end, at-whole, at_part)
+ruleset turns = (rules, piece_fits, at_end, at_whole, at_part)
 
-pub by-piece-spec : {M : Type 1} → statement M
-by-piece-spec =
+pub by_piece_spec : {M : Type 1} → statement M
+by_piece_spec =
     tie.close
     (tie.spec
     (λ c κs. search turns)

@@ -1,12 +1,12 @@
 use borrow.Author.Rules.{rules}
-use Rattle.keys.proofs.Scalars.{never-tail, last-tail}
+use Rattle.keys.proofs.Scalars.{never_tail, last_tail}
 use Rattle.keys.proofs.characters.is_tail.Statement.{statement}
 use Rattle.keys.proofs.characters.is_tail.Tie as tie
 
-ruleset turns = (rules, never-tail, last-tail)
+ruleset turns = (rules, never_tail, last_tail)
 
-pub is-tail-spec : {M : Type 1} → statement M
-is-tail-spec =
+pub is_tail_spec : {M : Type 1} → statement M
+is_tail_spec =
     tie.close
     (tie.spec
     (λ c. search turns)

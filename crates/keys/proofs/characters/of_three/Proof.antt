@@ -1,12 +1,12 @@
 use borrow.Author.Rules.{rules}
-use Rattle.keys.proofs.Scalars.{at-three}
+use Rattle.keys.proofs.Scalars.{at_three}
 use Rattle.keys.proofs.characters.of_three.Statement.{statement}
 use Rattle.keys.proofs.characters.of_three.Tie as tie
 
-ruleset turns = (rules, at-three)
+ruleset turns = (rules, at_three)
 
-pub of-three-spec : {M : Type 1} → statement M
-of-three-spec =
+pub of_three_spec : {M : Type 1} → statement M
+of_three_spec =
     tie.close
     (tie.spec
     (λ c κs. search turns)

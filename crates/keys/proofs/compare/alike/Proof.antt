@@ -1,9 +1,9 @@
 use borrow.Author.Rules.{rules}
-use Rattle.keys.proofs.PrefixLaws.{never, alike_same, alike-words}
+use Rattle.keys.proofs.PrefixLaws.{never, alike_same, alike_words}
 use Rattle.keys.proofs.compare.alike.Statement.{statement}
 use Rattle.keys.proofs.compare.alike.Tie as tie
 
-ruleset turns = (rules, never, alike_same, alike-words)
+ruleset turns = (rules, never, alike_same, alike_words)
 
 pub alike_spec : {M : Type 1} → statement M
 alike_spec =

@@ -5,8 +5,8 @@ use Rattle.keys.proofs.compare.at_character.Tie as tie
 
 ruleset turns = (rules, never_both)
 
-pub at-character-spec : {M : Type 1} → statement M
-at-character-spec =
+pub at_character_spec : {M : Type 1} → statement M
+at_character_spec =
     tie.close
     (tie.spec
     (λ c. search turns)

@@ -1,9 +1,9 @@
 use borrow.Author.Rules.{rules}
-use Rattle.keys.proofs.PrefixLaws.{pass-ascii, pass-apart}
+use Rattle.keys.proofs.PrefixLaws.{pass_ascii, pass_apart}
 use Rattle.keys.proofs.compare.pass.Statement.{statement}
 use Rattle.keys.proofs.compare.pass.Tie as tie
 
-ruleset turns = (rules, pass-ascii, pass-apart)
+ruleset turns = (rules, pass_ascii, pass_apart)
 
 pub pass_spec : {M : Type 1} → statement M
 pass_spec =

@@ -3,24 +3,24 @@ use mathlib.Core.Path.{◌≡◌}
 use native.Mathlib.Omega.{arith}
 use lib.ListN.{length, drop}
 use borrow.Author.Rules.{rules}
-use Rattle.utf8.specs.Text.{sameBytes}
-use Rattle.unicode.specs.Keys.{canonical, sameKeys}
-use Rattle.unicode.specs.Stream.{letters}
-use Rattle.keys.proofs.PrefixLaws.{prefix-starts, prefix-rest, prefix-stops, prefix-goes, shared-fits, shared_goes}
+use Rattle.utf8.specs.Text.{same_bytes}
+use Rattle.unicode_forms.specs.Keys.{canonical, same_keys}
+use Rattle.unicode_forms.specs.Stream.{letters}
+use Rattle.keys.proofs.PrefixLaws.{prefix_starts, prefix_rest, prefix_stops, prefix_goes, shared_fits, shared_goes}
 use Rattle.keys.proofs.compare.same_key.Statement.{statement}
 use Rattle.keys.proofs.compare.same_key.Tie as tie
 
-ruleset turns = (rules, prefix-starts, prefix-rest)
+ruleset turns = (rules, prefix_starts, prefix_rest)
 
 abbrev invariant-loop : tie.invariant-loop
 invariant-loop a b caseless end at₀ at =
-    (at ≤ length a) × ((end ≤ length a) × ((end ≤ length b) × (sameBytes (canonical (letters caseless (drop at a))) (canonical (letters caseless (drop at b))) ≡ sameKeys caseless a b)))
+    (at ≤ length a) × ((end ≤ length a) × ((end ≤ length b) × (same_bytes (canonical (letters caseless (drop at a))) (canonical (letters caseless (drop at b))) ≡ same_keys caseless a b)))
 
 abbrev decreases-loop : tie.decreases-loop
 decreases-loop a b caseless end at₀ at = length a - at
 
-pub same-key-spec : {M : Type 1} → statement M
-same-key-spec =
+pub same_key_spec : {M : Type 1} → statement M
+same_key_spec =
     tie.close
     (tie.spec
     invariant-loop
@@ -38,16 +38,16 @@ same-key-spec =
     (λ c κs. search turns)
     (λ c κs. search turns)
     (λ c. search turns)
-    (λ c. omega (arith, shared-fits c.before.before.before.before.before.before.before.before.before.before.before.before.args.caseless c.before.before.before.before.before.before.before.before.before.before.before.before.args.a.now c.before.before.before.before.before.before.before.before.before.before.before.before.args.b.now c.before.before.before.before.before.before.before.before.loop.at c.before.before.before.before.before.before.before.before.loop.at _ c.before.shared.ensures c.if2.false (omega arith)))
-    (λ c. omega (arith, shared-fits c.before.before.before.before.before.before.before.before.before.before.before.before.args.caseless c.before.before.before.before.before.before.before.before.before.before.before.before.args.a.now c.before.before.before.before.before.before.before.before.before.before.before.before.args.b.now c.before.before.before.before.before.before.before.before.loop.at c.before.before.before.before.before.before.before.before.loop.at _ c.before.shared.ensures c.if2.false (omega arith)))
-    (λ c. (omega (arith, shared-fits c.before.before.before.before.before.before.before.before.before.before.before.before.args.caseless c.before.before.before.before.before.before.before.before.before.before.before.before.args.a.now c.before.before.before.before.before.before.before.before.before.before.before.before.args.b.now c.before.before.before.before.before.before.before.before.loop.at c.before.before.before.before.before.before.before.before.loop.at _ c.before.shared.ensures c.if2.false (omega arith)), (search turns, (search turns, shared_goes c.before.before.before.before.before.before.before.before.before.before.before.before.args.caseless c.before.before.before.before.before.before.before.before.before.before.before.before.args.a.now c.before.before.before.before.before.before.before.before.before.before.before.before.args.b.now c.before.before.before.before.before.before.before.before.loop.at c.before.before.before.before.before.before.before.before.loop.at _ c.before.shared.ensures c.if2.false _ c.before.before.before.before.before.before.before.before.loop.invariant.1.1.1))))
+    (λ c. omega (arith, shared_fits c.before.before.before.before.before.before.before.before.before.before.before.before.args.caseless c.before.before.before.before.before.before.before.before.before.before.before.before.args.a.now c.before.before.before.before.before.before.before.before.before.before.before.before.args.b.now c.before.before.before.before.before.before.before.before.loop.at c.before.before.before.before.before.before.before.before.loop.at _ c.before.shared.ensures c.if2.false (omega arith)))
+    (λ c. omega (arith, shared_fits c.before.before.before.before.before.before.before.before.before.before.before.before.args.caseless c.before.before.before.before.before.before.before.before.before.before.before.before.args.a.now c.before.before.before.before.before.before.before.before.before.before.before.before.args.b.now c.before.before.before.before.before.before.before.before.loop.at c.before.before.before.before.before.before.before.before.loop.at _ c.before.shared.ensures c.if2.false (omega arith)))
+    (λ c. (omega (arith, shared_fits c.before.before.before.before.before.before.before.before.before.before.before.before.args.caseless c.before.before.before.before.before.before.before.before.before.before.before.before.args.a.now c.before.before.before.before.before.before.before.before.before.before.before.before.args.b.now c.before.before.before.before.before.before.before.before.loop.at c.before.before.before.before.before.before.before.before.loop.at _ c.before.shared.ensures c.if2.false (omega arith)), (search turns, (search turns, shared_goes c.before.before.before.before.before.before.before.before.before.before.before.before.args.caseless c.before.before.before.before.before.before.before.before.before.before.before.before.args.a.now c.before.before.before.before.before.before.before.before.before.before.before.before.args.b.now c.before.before.before.before.before.before.before.before.loop.at c.before.before.before.before.before.before.before.before.loop.at _ c.before.shared.ensures c.if2.false _ c.before.before.before.before.before.before.before.before.loop.invariant.1.1.1))))
     (λ c κs. search turns)
     (λ c κs. search turns)
     (λ c κs. search turns)
     (λ c. search turns)
-    (λ c. prefix-stops c.before.before.before.before.before.before.before.before.before.before.before.before.args.caseless c.before.before.before.before.before.before.before.before.before.before.before.before.args.a.now c.before.before.before.before.before.before.before.before.before.before.before.before.args.b.now c.before.before.before.before.before.before.before.before.loop.at c.before.before.before.before.before.before.before.before.loop.at _ c.before.before.before.before.before.before.before.before.loop.invariant.1.1.1 (omega arith) (omega arith) c.before.before.before.before.if1.false _ _ c.before.before.before.small-letter.ensures c.before.before.small-letter2.ensures c.if4.false c.before.if3.true)
+    (λ c. prefix_stops c.before.before.before.before.before.before.before.before.before.before.before.before.args.caseless c.before.before.before.before.before.before.before.before.before.before.before.before.args.a.now c.before.before.before.before.before.before.before.before.before.before.before.before.args.b.now c.before.before.before.before.before.before.before.before.loop.at c.before.before.before.before.before.before.before.before.loop.at _ c.before.before.before.before.before.before.before.before.loop.invariant.1.1.1 (omega arith) (omega arith) c.before.before.before.before.if1.false _ _ c.before.before.before.small-letter.ensures c.before.before.small-letter2.ensures c.if4.false c.before.if3.true)
     (λ c. search turns)
     (λ c. search turns)
-    (λ c. (omega arith, (search turns, (search turns, prefix-goes c.before.before.before.before.before.before.before.before.before.before.before.args.caseless c.before.before.before.before.before.before.before.before.before.before.before.args.a.now c.before.before.before.before.before.before.before.before.before.before.before.args.b.now c.before.before.before.before.before.before.before.loop.at c.before.before.before.before.before.before.before.loop.at _ c.before.before.before.before.before.before.before.loop.invariant.1.1.1 (omega arith) (omega arith) c.before.before.before.if1.false _ _ c.before.before.small-letter.ensures c.before.small-letter2.ensures c.if3.false))))
+    (λ c. (omega arith, (search turns, (search turns, prefix_goes c.before.before.before.before.before.before.before.before.before.before.before.args.caseless c.before.before.before.before.before.before.before.before.before.before.before.args.a.now c.before.before.before.before.before.before.before.before.before.before.before.args.b.now c.before.before.before.before.before.before.before.loop.at c.before.before.before.before.before.before.before.loop.at _ c.before.before.before.before.before.before.before.loop.invariant.1.1.1 (omega arith) (omega arith) c.before.before.before.if1.false _ _ c.before.before.small-letter.ensures c.before.small-letter2.ensures c.if3.false))))
     (λ c κs. search turns)
     (λ c. search turns))

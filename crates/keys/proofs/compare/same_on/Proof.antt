@@ -1,22 +1,22 @@
 use mathlib.Core.Path.{◌≡◌}
 use lib.ListN.{length, drop}
 use borrow.Author.Rules.{rules}
-use Rattle.unicode.specs.Stream.{letters}
-use Rattle.keys.specs.Told.{sameLeft}
-use Rattle.keys.proofs.PrefixLaws.{prefix-rest, on-apart, on-goes, on-less}
+use Rattle.unicode_forms.specs.Stream.{letters}
+use Rattle.keys.specs.Told.{same_left}
+use Rattle.keys.proofs.PrefixLaws.{prefix_rest, on_apart, on_goes, on_less}
 use Rattle.keys.proofs.compare.same_on.Statement.{statement}
 use Rattle.keys.proofs.compare.same_on.Tie as tie
 
-ruleset turns = (rules, prefix-rest, on-apart, on-goes, on-less)
+ruleset turns = (rules, prefix_rest, on_apart, on_goes, on_less)
 
 abbrev invariant-loop : tie.invariant-loop
-invariant-loop a b caseless at i₀ j₀ i j = sameLeft caseless a b i j ≡ sameLeft caseless a b at at
+invariant-loop a b caseless at i₀ j₀ i j = same_left caseless a b i j ≡ same_left caseless a b at at
 
 abbrev decreases-loop : tie.decreases-loop
 decreases-loop a b caseless at i₀ j₀ i j = length (letters caseless (drop i a))
 
-pub same-on-spec : {M : Type 1} → statement M
-same-on-spec =
+pub same_on_spec : {M : Type 1} → statement M
+same_on_spec =
     tie.close
     (tie.spec
     invariant-loop

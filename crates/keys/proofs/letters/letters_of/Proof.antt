@@ -1,12 +1,12 @@
 use borrow.Author.Rules.{rules}
 use Rattle.keys.proofs.letters.letters_of.Statement.{statement}
 use Rattle.keys.proofs.letters.letters_of.Tie as tie
-use Rattle.keys.proofs.LetterLaws.{letters-small, letters-table, letters-plain, letters-beyond, letters-syllable}
+use Rattle.keys.proofs.LetterLaws.{letters_small, letters_table, letters_plain, letters_beyond, letters_syllable}
 
-ruleset turns = (rules, letters-small, letters-table, letters-plain, letters-beyond, letters-syllable)
+ruleset turns = (rules, letters_small, letters_table, letters_plain, letters_beyond, letters_syllable)
 
-pub letters-of-spec : {M : Type 1} → statement M
-letters-of-spec =
+pub letters_of_spec : {M : Type 1} → statement M
+letters_of_spec =
     tie.close
     (tie.spec
     (λ c κs. search turns)

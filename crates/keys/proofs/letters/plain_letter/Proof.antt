@@ -1,12 +1,12 @@
 use borrow.Author.Rules.{rules}
 use Rattle.keys.proofs.letters.plain_letter.Statement.{statement}
 use Rattle.keys.proofs.letters.plain_letter.Tie as tie
-use Rattle.keys.proofs.LetterLaws.{small-exact, small-under, small-capital, small-over}
+use Rattle.keys.proofs.LetterLaws.{small_exact, small_under, small_capital, small_over}
 
-ruleset turns = (rules, small-exact, small-under, small-capital, small-over)
+ruleset turns = (rules, small_exact, small_under, small_capital, small_over)
 
-pub plain-letter-spec : {M : Type 1} → statement M
-plain-letter-spec =
+pub plain_letter_spec : {M : Type 1} → statement M
+plain_letter_spec =
     tie.close
     (tie.spec
     (λ c. search turns)

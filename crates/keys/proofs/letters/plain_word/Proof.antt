@@ -3,16 +3,16 @@ use borrow.Author.Rules.{rules}
 use Rattle.keys.proofs.letters.plain_word.Statement.{statement}
 use Rattle.keys.proofs.letters.plain_word.Tie as tie
 use Rattle.keys.proofs.LetterLaws.{by_word}
-use Rattle.error.specs.Answer.{ifLe, ifEq}
-use Rattle.utf8.specs.Text.{ifIn, sameBytes}
-use Rattle.unicode.specs.Data.{hangul, decompose, inRows, lowerOne, lower}
-use Rattle.unicode.specs.Keys.{flat, fold}
-use Rattle.unicode.specs.Stream.{lettersOf}
+use Rattle.error.specs.Answer.{if_le, if_eq}
+use Rattle.utf8.specs.Text.{if_in, same_bytes}
+use Rattle.unicode_forms.specs.Data.{hangul, decompose, in_rows, lower_one, lower}
+use Rattle.unicode_forms.specs.Keys.{flat, fold}
+use Rattle.unicode_forms.specs.Stream.{letters_of}
 use Rattle.keys.specs.Told.{unpacked}
 
-pub plain-word-spec : {M : Type 1} → statement M
-unfolding sameBytes unpacked lettersOf flat fold decompose inRows hangul lower lowerOne ifIn ifLe ifEq
-plain-word-spec =
+pub plain_word_spec : {M : Type 1} → statement M
+unfolding same_bytes unpacked letters_of flat fold decompose in_rows hangul lower lower_one if_in if_le if_eq
+plain_word_spec =
     tie.close
     (tie.spec
     (λ c. search rules)

@@ -1,12 +1,12 @@
 use borrow.Author.Rules.{rules}
 use Rattle.keys.proofs.letters.small_letter.Statement.{statement}
 use Rattle.keys.proofs.letters.small_letter.Tie as tie
-use Rattle.keys.proofs.LetterLaws.{small-exact, small-under, small-capital, small-over}
+use Rattle.keys.proofs.LetterLaws.{small_exact, small_under, small_capital, small_over}
 
-ruleset turns = (rules, small-exact, small-under, small-capital, small-over)
+ruleset turns = (rules, small_exact, small_under, small_capital, small_over)
 
-pub small-letter-spec : {M : Type 1} → statement M
-small-letter-spec =
+pub small_letter_spec : {M : Type 1} → statement M
+small_letter_spec =
     tie.close
     (tie.spec
     (λ c. search turns)

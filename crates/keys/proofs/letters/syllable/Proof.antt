@@ -1,12 +1,12 @@
 use borrow.Author.Rules.{rules}
 use Rattle.keys.proofs.letters.syllable.Statement.{statement}
 use Rattle.keys.proofs.letters.syllable.Tie as tie
-use Rattle.keys.proofs.LetterLaws.{syllable-two, syllable-three}
+use Rattle.keys.proofs.LetterLaws.{syllable_two, syllable_three}
 
-ruleset turns = (rules, syllable-two, syllable-three)
+ruleset turns = (rules, syllable_two, syllable_three)
 
-pub syllable-spec : {M : Type 1} → statement M
-syllable-spec =
+pub syllable_spec : {M : Type 1} → statement M
+syllable_spec =
     tie.close
     (tie.spec
     (λ c. search turns)

@@ -1,12 +1,12 @@
 use borrow.Author.Rules.{rules}
 use Rattle.keys.proofs.letters.unpack.Statement.{statement}
 use Rattle.keys.proofs.letters.unpack.Tie as tie
-use Rattle.keys.proofs.LetterLaws.{unpack-one, unpack-two}
+use Rattle.keys.proofs.LetterLaws.{unpack_one, unpack_two}
 
-ruleset turns = (rules, unpack-one, unpack-two)
+ruleset turns = (rules, unpack_one, unpack_two)
 
-pub unpack-spec : {M : Type 1} → statement M
-unpack-spec =
+pub unpack_spec : {M : Type 1} → statement M
+unpack_spec =
     tie.close
     (tie.spec
     (λ c. search turns)

@@ -3,23 +3,23 @@ use mathlib.Core.Path.{◌≡◌}
 use native.Mathlib.Omega.{arith}
 use lib.ListN.{length, drop}
 use borrow.Author.Rules.{rules}
-use Rattle.unicode.specs.Keys.{sameKeys}
-use Rattle.keys.specs.Told.{sameLeft}
-use Rattle.keys.proofs.PrefixLaws.{prefix-starts, prefix-rest, beside-goes, beside-stops}
+use Rattle.unicode_forms.specs.Keys.{same_keys}
+use Rattle.keys.specs.Told.{same_left}
+use Rattle.keys.proofs.PrefixLaws.{prefix_starts, prefix_rest, beside_goes, beside_stops}
 use Rattle.keys.proofs.matching.same_ascii.Statement.{statement}
 use Rattle.keys.proofs.matching.same_ascii.Tie as tie
 
-ruleset turns = (rules, prefix-starts, prefix-rest)
+ruleset turns = (rules, prefix_starts, prefix_rest)
 
 abbrev invariant-loop : tie.invariant-loop
 invariant-loop part name caseless end at₀ at =
-    (at ≤ length part) × ((end ≤ length part) × ((end ≤ length name) × (sameLeft caseless part name at at ≡ sameKeys caseless part name)))
+    (at ≤ length part) × ((end ≤ length part) × ((end ≤ length name) × (same_left caseless part name at at ≡ same_keys caseless part name)))
 
 abbrev decreases-loop : tie.decreases-loop
 decreases-loop part name caseless end at₀ at = length part - at
 
-pub same-ascii-spec : {M : Type 1} → statement M
-same-ascii-spec =
+pub same_ascii_spec : {M : Type 1} → statement M
+same_ascii_spec =
     tie.close
     (tie.spec
     invariant-loop
@@ -32,9 +32,9 @@ same-ascii-spec =
     (λ c κs. search turns)
     (λ c κs. search turns)
     (λ c. search turns)
-    (λ c. beside-stops c.before.before.before.before.before.before.before.before.before.before.before.args.caseless c.before.before.before.before.before.before.before.before.before.before.before.args.part.now c.before.before.before.before.before.before.before.before.before.before.before.args.name.now c.before.before.before.before.before.before.before.before.before.before.before.requires c.before.before.before.before.before.before.before.loop.at _ c.before.before.before.before.before.before.before.loop.invariant.1.1.1 (omega arith) (omega arith) _ _ c.before.before.before.small-letter.ensures c.before.before.small-letter2.ensures c.if2.false c.before.if1.true)
+    (λ c. beside_stops c.before.before.before.before.before.before.before.before.before.before.before.args.caseless c.before.before.before.before.before.before.before.before.before.before.before.args.part.now c.before.before.before.before.before.before.before.before.before.before.before.args.name.now c.before.before.before.before.before.before.before.before.before.before.before.requires c.before.before.before.before.before.before.before.loop.at _ c.before.before.before.before.before.before.before.loop.invariant.1.1.1 (omega arith) (omega arith) _ _ c.before.before.before.small-letter.ensures c.before.before.small-letter2.ensures c.if2.false c.before.if1.true)
     (λ c. search turns)
     (λ c. search turns)
-    (λ c. (omega arith, (search turns, (search turns, beside-goes c.before.before.before.before.before.before.before.before.before.before.args.caseless c.before.before.before.before.before.before.before.before.before.before.args.part.now c.before.before.before.before.before.before.before.before.before.before.args.name.now c.before.before.before.before.before.before.before.before.before.before.requires c.before.before.before.before.before.before.loop.at _ c.before.before.before.before.before.before.loop.invariant.1.1.1 (omega arith) (omega arith) _ _ c.before.before.small-letter.ensures c.before.small-letter2.ensures c.if1.false))))
+    (λ c. (omega arith, (search turns, (search turns, beside_goes c.before.before.before.before.before.before.before.before.before.before.args.caseless c.before.before.before.before.before.before.before.before.before.before.args.part.now c.before.before.before.before.before.before.before.before.before.before.args.name.now c.before.before.before.before.before.before.before.before.before.before.requires c.before.before.before.before.before.before.loop.at _ c.before.before.before.before.before.before.loop.invariant.1.1.1 (omega arith) (omega arith) _ _ c.before.before.small-letter.ensures c.before.small-letter2.ensures c.if1.false))))
     (λ c κs. search turns)
     (λ c. search turns))

@@ -3,22 +3,22 @@ use mathlib.Core.Path.{◌≡◌}
 use native.Mathlib.Omega.{arith}
 use lib.ListN.{length, drop}
 use borrow.Author.Rules.{rules}
-use Rattle.unicode.specs.Keys.{coveredText}
-use Rattle.keys.proofs.AsciiLaws.{covers-ascii}
-use Rattle.keys.proofs.RangeLaws.{covers-fits, covers-done, covers-end, covers-some, covers-stops, covers-goes}
+use Rattle.unicode_forms.specs.Keys.{covered_text}
+use Rattle.keys.proofs.AsciiLaws.{covers_ascii}
+use Rattle.keys.proofs.RangeLaws.{covers_fits, covers_done, covers_end, covers_some, covers_stops, covers_goes}
 use Rattle.keys.proofs.ranges.each_covered.Statement.{statement}
 use Rattle.keys.proofs.ranges.each_covered.Tie as tie
 
-ruleset turns = (rules, covers-ascii, covers-fits, covers-done, covers-end, covers-some, covers-stops, covers-goes)
+ruleset turns = (rules, covers_ascii, covers_fits, covers_done, covers_end, covers_some, covers_stops, covers_goes)
 
 abbrev invariant-loop : tie.invariant-loop
-invariant-loop b at₀ at = (at ≤ length b) × (coveredText (drop at b) ≡ coveredText b)
+invariant-loop b at₀ at = (at ≤ length b) × (covered_text (drop at b) ≡ covered_text b)
 
 abbrev decreases-loop : tie.decreases-loop
 decreases-loop b at₀ at = length b - at
 
-pub each-covered-spec : {M : Type 1} → statement M
-each-covered-spec =
+pub each_covered_spec : {M : Type 1} → statement M
+each_covered_spec =
     tie.close
     (tie.spec
     invariant-loop
@@ -37,7 +37,7 @@ each-covered-spec =
     (λ c. search turns)
     (λ c κs. search turns)
     (λ c. search turns)
-    (λ c. omega (arith, covers-fits c.before.before.before.before.before.before.before.before.before.before.before.before.args.b.now c.before.before.before.before.before.before.before.before.before.before.loop.at _ c.before.before.before.before.before.before.before.before.before.before.loop.invariant.1 _ c.before.before.before.before.before.character-at.ensures _ _ c.before.before.before.c.given.1 c.before.before.before.before.before.before.before.before.before.loop-test.true))
-    (λ c. omega (arith, covers-fits c.before.before.before.before.before.before.before.before.before.before.before.before.args.b.now c.before.before.before.before.before.before.before.before.before.before.loop.at _ c.before.before.before.before.before.before.before.before.before.before.loop.invariant.1 _ c.before.before.before.before.before.character-at.ensures _ _ c.before.before.before.c.given.1 c.before.before.before.before.before.before.before.before.before.loop-test.true, covers-some c.before.before.before.before.before.before.before.before.before.before.before.before.args.b.now c.before.before.before.before.before.before.before.before.before.before.loop.at _ c.before.before.before.before.before.before.before.before.before.before.loop.invariant.1 _ c.before.before.before.before.before.character-at.ensures _ _ c.before.before.before.c.given.1))
-    (λ c. (omega (arith, covers-fits c.before.before.before.before.before.before.before.before.before.before.before.before.args.b.now c.before.before.before.before.before.before.before.before.before.before.loop.at _ c.before.before.before.before.before.before.before.before.before.before.loop.invariant.1 _ c.before.before.before.before.before.character-at.ensures _ _ c.before.before.before.c.given.1 c.before.before.before.before.before.before.before.before.before.loop-test.true), covers-goes c.before.before.before.before.before.before.before.before.before.before.before.before.args.b.now c.before.before.before.before.before.before.before.before.before.before.loop.at _ c.before.before.before.before.before.before.before.before.before.before.loop.invariant.1 _ c.before.before.before.before.before.character-at.ensures _ _ c.before.before.before.c.given.1 _ c.before.is-covered.ensures c.if2.false))
+    (λ c. omega (arith, covers_fits c.before.before.before.before.before.before.before.before.before.before.before.before.args.b.now c.before.before.before.before.before.before.before.before.before.before.loop.at _ c.before.before.before.before.before.before.before.before.before.before.loop.invariant.1 _ c.before.before.before.before.before.character-at.ensures _ _ c.before.before.before.c.given.1 c.before.before.before.before.before.before.before.before.before.loop-test.true))
+    (λ c. omega (arith, covers_fits c.before.before.before.before.before.before.before.before.before.before.before.before.args.b.now c.before.before.before.before.before.before.before.before.before.before.loop.at _ c.before.before.before.before.before.before.before.before.before.before.loop.invariant.1 _ c.before.before.before.before.before.character-at.ensures _ _ c.before.before.before.c.given.1 c.before.before.before.before.before.before.before.before.before.loop-test.true, covers_some c.before.before.before.before.before.before.before.before.before.before.before.before.args.b.now c.before.before.before.before.before.before.before.before.before.before.loop.at _ c.before.before.before.before.before.before.before.before.before.before.loop.invariant.1 _ c.before.before.before.before.before.character-at.ensures _ _ c.before.before.before.c.given.1))
+    (λ c. (omega (arith, covers_fits c.before.before.before.before.before.before.before.before.before.before.before.before.args.b.now c.before.before.before.before.before.before.before.before.before.before.loop.at _ c.before.before.before.before.before.before.before.before.before.before.loop.invariant.1 _ c.before.before.before.before.before.character-at.ensures _ _ c.before.before.before.c.given.1 c.before.before.before.before.before.before.before.before.before.loop-test.true), covers_goes c.before.before.before.before.before.before.before.before.before.before.before.before.args.b.now c.before.before.before.before.before.before.before.before.before.before.loop.at _ c.before.before.before.before.before.before.before.before.before.before.loop.invariant.1 _ c.before.before.before.before.before.character-at.ensures _ _ c.before.before.before.c.given.1 _ c.before.is-covered.ensures c.if2.false))
     (λ c. search turns))

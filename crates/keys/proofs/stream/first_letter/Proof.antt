@@ -1,15 +1,15 @@
 use mathlib.Core.Bool.{false}
 use native.Mathlib.Omega.{arith}
 use borrow.Author.Rules.{rules}
-use Rattle.keys.proofs.AsciiLaws.{first-ascii}
-use Rattle.keys.proofs.StreamLaws.{first-none, first-end, first_fits, first_goes}
+use Rattle.keys.proofs.AsciiLaws.{first_ascii}
+use Rattle.keys.proofs.StreamLaws.{first_none, first_end, first_fits, first_goes}
 use Rattle.keys.proofs.stream.first_letter.Statement.{statement}
 use Rattle.keys.proofs.stream.first_letter.Tie as tie
 
-ruleset turns = (rules, first-ascii, first-none, first-end, first_fits, first_goes)
+ruleset turns = (rules, first_ascii, first_none, first_end, first_fits, first_goes)
 
-pub first-letter-spec : {M : Type 1} → statement M
-first-letter-spec =
+pub first_letter_spec : {M : Type 1} → statement M
+first_letter_spec =
     tie.close
     (tie.spec
     (λ c. search turns)

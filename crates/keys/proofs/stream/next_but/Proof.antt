@@ -3,11 +3,11 @@ use mathlib.Core.Path.{◌≡◌}
 use lib.ListN.{length}
 use Rattle.keys.proofs.stream.next_but.Statement.{statement}
 use Rattle.keys.proofs.stream.next_but.Tie as tie
-use Rattle.unicode.specs.Stream.{without}
+use Rattle.unicode_forms.specs.Stream.{without}
 use Rattle.keys.specs.Told.{left_of}
-use Rattle.keys.proofs.StreamLaws.{but-end, but-stops, but-goes, but-less}
+use Rattle.keys.proofs.StreamLaws.{but_end, but_stops, but_goes, but_less}
 
-ruleset turns = (rules, but-end, but-stops, but-goes, but-less)
+ruleset turns = (rules, but_end, but_stops, but_goes, but_less)
 
 abbrev invariant-loop : tie.invariant-loop
 invariant-loop b caseless class cursor₀ cursor = without class (left_of caseless b cursor) ≡ without class (left_of caseless b cursor₀)
@@ -15,8 +15,8 @@ invariant-loop b caseless class cursor₀ cursor = without class (left_of casele
 abbrev decreases-loop : tie.decreases-loop
 decreases-loop b caseless class cursor₀ cursor = length (left_of caseless b cursor)
 
-pub next-but-spec : {M : Type 1} → statement M
-next-but-spec =
+pub next_but_spec : {M : Type 1} → statement M
+next_but_spec =
     tie.close
     (tie.spec
     invariant-loop

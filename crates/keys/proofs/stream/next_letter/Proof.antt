@@ -1,12 +1,12 @@
 use borrow.Author.Rules.{rules}
 use Rattle.keys.proofs.stream.next_letter.Statement.{statement}
 use Rattle.keys.proofs.stream.next_letter.Tie as tie
-use Rattle.keys.proofs.StreamLaws.{left-none, left_one, left-two}
+use Rattle.keys.proofs.StreamLaws.{left_none, left_one, left_two}
 
-ruleset turns = (rules, left-none, left_one, left-two)
+ruleset turns = (rules, left_none, left_one, left_two)
 
-pub next-letter-spec : {M : Type 1} → statement M
-next-letter-spec =
+pub next_letter_spec : {M : Type 1} → statement M
+next_letter_spec =
     tie.close
     (tie.spec
     (λ c. search turns)

@@ -3,8 +3,8 @@ use Rattle.leaves.proofs.Laws.{all}
 use Rattle.leaves.proofs.answers.refusal_in.Statement.{statement}
 use Rattle.leaves.proofs.answers.refusal_in.Tie as tie
 
-pub refusal-in-spec : {M : Type 1} → statement M
-refusal-in-spec =
+pub refusal_in_spec : {M : Type 1} → statement M
+refusal_in_spec =
     tie.close
     (tie.spec
     (λ c. search rules)

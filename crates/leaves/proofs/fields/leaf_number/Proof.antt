@@ -2,8 +2,8 @@ use borrow.Author.Rules.{rules}
 use Rattle.leaves.proofs.fields.leaf_number.Statement.{statement}
 use Rattle.leaves.proofs.fields.leaf_number.Tie as tie
 
-pub leaf-number-spec : {M : Type 1} → statement M
-leaf-number-spec =
+pub leaf_number_spec : {M : Type 1} → statement M
+leaf_number_spec =
     tie.close
     (tie.spec
     (λ c κs. search rules)

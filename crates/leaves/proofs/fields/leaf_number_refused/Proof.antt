@@ -2,8 +2,8 @@ use borrow.Author.Rules.{rules}
 use Rattle.leaves.proofs.fields.leaf_number_refused.Statement.{statement}
 use Rattle.leaves.proofs.fields.leaf_number_refused.Tie as tie
 
-pub leaf-number-refused-spec : {M : Type 1} → statement M
-leaf-number-refused-spec =
+pub leaf_number_refused_spec : {M : Type 1} → statement M
+leaf_number_refused_spec =
     tie.close
     (tie.spec
     (λ c κs. search rules)

@@ -2,8 +2,8 @@ use borrow.Author.Rules.{rules}
 use Rattle.leaves.proofs.names.leaf_hash.Statement.{statement}
 use Rattle.leaves.proofs.names.leaf_hash.Tie as tie
 
-pub leaf-hash-spec : {M : Type 1} → statement M
-leaf-hash-spec =
+pub leaf_hash_spec : {M : Type 1} → statement M
+leaf_hash_spec =
     tie.close
     (tie.spec
     (λ c κs. search rules)

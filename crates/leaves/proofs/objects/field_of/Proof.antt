@@ -4,9 +4,9 @@ use Rattle.leaves.specs.Leaves.{field_of}
 use Rattle.leaves.proofs.objects.field_of.Statement.{statement}
 use Rattle.leaves.proofs.objects.field_of.Tie as tie
 
-pub field-of-spec : {M : Type 1} → statement M
+pub field_of_spec : {M : Type 1} → statement M
 unfolding field_of
-field-of-spec =
+field_of_spec =
     tie.close
     (tie.spec
     (λ c. search (rules, tests) depth 9)

@@ -3,8 +3,8 @@ use Rattle.leaves.proofs.Laws.{all}
 use Rattle.leaves.proofs.objects.leaf_header.Statement.{statement}
 use Rattle.leaves.proofs.objects.leaf_header.Tie as tie
 
-pub leaf-header-spec : {M : Type 1} → statement M
-leaf-header-spec =
+pub leaf_header_spec : {M : Type 1} → statement M
+leaf_header_spec =
     tie.close
     (tie.spec
     (λ c κs. search rules)

@@ -3,8 +3,8 @@ use Rattle.leaves.proofs.Laws.{all}
 use Rattle.leaves.proofs.objects.leaf_header_refused.Statement.{statement}
 use Rattle.leaves.proofs.objects.leaf_header_refused.Tie as tie
 
-pub leaf-header-refused-spec : {M : Type 1} → statement M
-leaf-header-refused-spec =
+pub leaf_header_refused_spec : {M : Type 1} → statement M
+leaf_header_refused_spec =
     tie.close
     (tie.spec
     (λ c κs. search rules)

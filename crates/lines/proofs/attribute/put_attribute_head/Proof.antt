@@ -1,12 +1,12 @@
 use borrow.Author.Rules.{rules}
-use Rattle.lines.specs.Inner.{attributeHead}
+use Rattle.lines.specs.Inner.{attribute_head}
 use Rattle.lines.proofs.Laws.{all}
 use Rattle.lines.proofs.attribute.put_attribute_head.Statement.{statement}
 use Rattle.lines.proofs.attribute.put_attribute_head.Tie as tie
 
-pub put-attribute-head-spec : {M : Type 1} → statement M
-unfolding attributeHead
-put-attribute-head-spec =
+pub put_attribute_head_spec : {M : Type 1} → statement M
+unfolding attribute_head
+put_attribute_head_spec =
     tie.close
     (tie.spec
     (λ c. search rules)

@@ -3,8 +3,8 @@ use Rattle.lines.proofs.Laws.{all}
 use Rattle.lines.proofs.inode.put_label.Statement.{statement}
 use Rattle.lines.proofs.inode.put_label.Tie as tie
 
-pub put-label-spec : {M : Type 1} → statement M
-put-label-spec =
+pub put_label_spec : {M : Type 1} → statement M
+put_label_spec =
     tie.close
     (tie.spec
     (λ c. search rules)

@@ -3,8 +3,8 @@ use Rattle.lines.proofs.Laws.{all}
 use Rattle.lines.proofs.inode.put_node_line.Statement.{statement}
 use Rattle.lines.proofs.inode.put_node_line.Tie as tie
 
-pub put-node-line-spec : {M : Type 1} → statement M
-put-node-line-spec =
+pub put_node_line_spec : {M : Type 1} → statement M
+put_node_line_spec =
     tie.close
     (tie.spec
     (λ c κs. search rules)

@@ -3,8 +3,8 @@ use Rattle.lines.proofs.Laws.{all}
 use Rattle.lines.proofs.inode.put_stream.Statement.{statement}
 use Rattle.lines.proofs.inode.put_stream.Tie as tie
 
-pub put-stream-spec : {M : Type 1} → statement M
-put-stream-spec =
+pub put_stream_spec : {M : Type 1} → statement M
+put_stream_spec =
     tie.close
     (tie.spec
     (λ c. search rules)

@@ -1,13 +1,13 @@
 use borrow.Author.Rules.{rules}
-use Rattle.lines.specs.Lines.{entryLine}
-use Rattle.lines.specs.Shown.{entryShown}
+use Rattle.lines.specs.Lines.{entry_line}
+use Rattle.lines.specs.Shown.{entry_shown}
 use Rattle.lines.proofs.Laws.{all}
 use Rattle.lines.proofs.line.put_entry_line.Statement.{statement}
 use Rattle.lines.proofs.line.put_entry_line.Tie as tie
 
-pub put-entry-line-spec : {M : Type 1} → statement M
-unfolding entryLine entryShown
-put-entry-line-spec =
+pub put_entry_line_spec : {M : Type 1} → statement M
+unfolding entry_line entry_shown
+put_entry_line_spec =
     tie.close
     (tie.spec
     (λ c. search rules)

@@ -1,12 +1,12 @@
 use borrow.Author.Rules.{rules}
-use Rattle.lines.specs.Lines.{extentLine}
+use Rattle.lines.specs.Lines.{extent_line}
 use Rattle.lines.proofs.Laws.{all}
 use Rattle.lines.proofs.line.put_extent_line.Statement.{statement}
 use Rattle.lines.proofs.line.put_extent_line.Tie as tie
 
-pub put-extent-line-spec : {M : Type 1} → statement M
-unfolding extentLine
-put-extent-line-spec =
+pub put_extent_line_spec : {M : Type 1} → statement M
+unfolding extent_line
+put_extent_line_spec =
     tie.close
     (tie.spec
     (λ c. search rules)

@@ -3,8 +3,8 @@ use Rattle.lines.proofs.Laws.{all}
 use Rattle.lines.proofs.line.put_rule.Statement.{statement}
 use Rattle.lines.proofs.line.put_rule.Tie as tie
 
-pub put-rule-spec : {M : Type 1} → statement M
-put-rule-spec =
+pub put_rule_spec : {M : Type 1} → statement M
+put_rule_spec =
     tie.close
     (tie.spec
     (λ c κs. search rules)

@@ -1,12 +1,12 @@
 use borrow.Author.Rules.{rules}
-use Rattle.lines.specs.Lines.{totalLine}
+use Rattle.lines.specs.Lines.{total_line}
 use Rattle.lines.proofs.Laws.{all}
 use Rattle.lines.proofs.line.put_total_line.Statement.{statement}
 use Rattle.lines.proofs.line.put_total_line.Tie as tie
 
-pub put-total-line-spec : {M : Type 1} → statement M
-unfolding totalLine
-put-total-line-spec =
+pub put_total_line_spec : {M : Type 1} → statement M
+unfolding total_line
+put_total_line_spec =
     tie.close
     (tie.spec
     (λ c. search rules)

@@ -1,12 +1,12 @@
 use borrow.Author.Rules.{rules}
-use Rattle.lines.specs.Lines.{volumeLine}
+use Rattle.lines.specs.Lines.{volume_line}
 use Rattle.lines.proofs.Laws.{all}
 use Rattle.lines.proofs.line.put_volume_line.Statement.{statement}
 use Rattle.lines.proofs.line.put_volume_line.Tie as tie
 
-pub put-volume-line-spec : {M : Type 1} → statement M
-unfolding volumeLine
-put-volume-line-spec =
+pub put_volume_line_spec : {M : Type 1} → statement M
+unfolding volume_line
+put_volume_line_spec =
     tie.close
     (tie.spec
     (λ c. search rules)

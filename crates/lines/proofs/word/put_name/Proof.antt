@@ -3,8 +3,8 @@ use Rattle.lines.proofs.Laws.{all}
 use Rattle.lines.proofs.word.put_name.Statement.{statement}
 use Rattle.lines.proofs.word.put_name.Tie as tie
 
-pub put-name-spec : {M : Type 1} → statement M
-put-name-spec =
+pub put_name_spec : {M : Type 1} → statement M
+put_name_spec =
     tie.close
     (tie.spec
     (λ c. search rules)

@@ -3,8 +3,8 @@ use Rattle.links.proofs.Answers.{answers}
 use Rattle.links.proofs.link.read_contents.Statement.{statement}
 use Rattle.links.proofs.link.read_contents.Tie as tie
 
-pub read-contents-spec : {M : Type 1} → statement M
-read-contents-spec =
+pub read_contents_spec : {M : Type 1} → statement M
+read_contents_spec =
     tie.close
     (tie.spec
     (λ c κs. search rules)

@@ -3,8 +3,8 @@ use Rattle.links.proofs.Answers.{answers}
 use Rattle.links.proofs.link.read_link.Statement.{statement}
 use Rattle.links.proofs.link.read_link.Tie as tie
 
-pub read-link-spec : {M : Type 1} → statement M
-read-link-spec =
+pub read_link_spec : {M : Type 1} → statement M
+read_link_spec =
     tie.close
     (tie.spec
     (λ c. search rules)

@@ -3,8 +3,8 @@ use Rattle.links.proofs.Answers.{answers}
 use Rattle.links.proofs.link.read_xattr.Statement.{statement}
 use Rattle.links.proofs.link.read_xattr.Tie as tie
 
-pub read-xattr-spec : {M : Type 1} → statement M
-read-xattr-spec =
+pub read_xattr_spec : {M : Type 1} → statement M
+read_xattr_spec =
     tie.close
     (tie.spec
     (λ c κs. search rules)

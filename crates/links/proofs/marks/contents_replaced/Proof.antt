@@ -3,8 +3,8 @@ use Rattle.links.proofs.Counting.{counting}
 use Rattle.links.proofs.marks.contents_replaced.Statement.{statement}
 use Rattle.links.proofs.marks.contents_replaced.Tie as tie
 
-pub contents-replaced-spec : {M : Type 1} → statement M
-contents-replaced-spec =
+pub contents_replaced_spec : {M : Type 1} → statement M
+contents_replaced_spec =
     tie.close
     (tie.spec
     (λ c. search rules)

@@ -3,8 +3,8 @@ use Rattle.links.proofs.Counting.{counting}
 use Rattle.links.proofs.marks.link_replaced.Statement.{statement}
 use Rattle.links.proofs.marks.link_replaced.Tie as tie
 
-pub link-replaced-spec : {M : Type 1} → statement M
-link-replaced-spec =
+pub link_replaced_spec : {M : Type 1} → statement M
+link_replaced_spec =
     tie.close
     (tie.spec
     (λ c. search rules)

@@ -1,16 +1,16 @@
 use borrow.Author.Rules.{rules}
-use Rattle.links.specs.Inner.{begunAs}
-use Rattle.links.proofs.Targets.{contents-put}
+use Rattle.links.specs.Inner.{begun_as}
+use Rattle.links.proofs.Targets.{contents_put}
 use Rattle.links.proofs.marks.put_marks.Statement.{statement}
 use Rattle.links.proofs.marks.put_marks.Tie as tie
 
-pub put-marks-spec : {M : Type 1} → statement M
-unfolding begunAs
-put-marks-spec =
+pub put_marks_spec : {M : Type 1} → statement M
+unfolding begun_as
+put_marks_spec =
     tie.close
     (tie.spec
     (λ c κs. search rules)
     (λ c κs. search rules)
     (λ c κs. search rules)
     (λ c. search rules)
-    (λ c. contents-put _ _ _ _ _ _ _ _ _ c.before.before.before.before.before.before.before.before.feed-begin.ensures c.before.before.before.before.before.before.push-stream.ensures c.before.before.feed-end.ensures))
+    (λ c. contents_put _ _ _ _ _ _ _ _ _ c.before.before.before.before.before.before.before.before.feed-begin.ensures c.before.before.before.before.before.before.push-stream.ensures c.before.before.feed-end.ensures))

@@ -3,8 +3,8 @@ use Rattle.links.proofs.Counting.{counting}
 use Rattle.links.proofs.marks.stream_replaced.Statement.{statement}
 use Rattle.links.proofs.marks.stream_replaced.Tie as tie
 
-pub stream-replaced-spec : {M : Type 1} → statement M
-stream-replaced-spec =
+pub stream_replaced_spec : {M : Type 1} → statement M
+stream_replaced_spec =
     tie.close
     (tie.spec
     (λ c κs. search rules)

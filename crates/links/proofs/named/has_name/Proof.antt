@@ -3,8 +3,8 @@ use Rattle.links.proofs.Names.{names}
 use Rattle.links.proofs.named.has_name.Statement.{statement}
 use Rattle.links.proofs.named.has_name.Tie as tie
 
-pub has-name-spec : {M : Type 1} → statement M
-has-name-spec =
+pub has_name_spec : {M : Type 1} → statement M
+has_name_spec =
     tie.close
     (tie.spec
     (λ c κs. search rules)

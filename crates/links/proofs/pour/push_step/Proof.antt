@@ -1,10 +1,10 @@
 use borrow.Author.Rules.{rules}
-use Rattle.links.proofs.Pouring.{pours, step-some}
+use Rattle.links.proofs.Pouring.{pours, step_some}
 use Rattle.links.proofs.pour.push_step.Statement.{statement}
 use Rattle.links.proofs.pour.push_step.Tie as tie
 
-pub push-step-spec : {M : Type 1} → statement M
-push-step-spec =
+pub push_step_spec : {M : Type 1} → statement M
+push_step_spec =
     tie.close
     (tie.spec
     (λ c. search pours)
@@ -14,4 +14,4 @@ push-step-spec =
     (λ c κs. search rules)
     (λ c κs. search rules)
     (λ c. search rules)
-    (λ c. λ xs. step-some _ _ _ _ xs _ _ _ _ _ _ _ _ _ _ _ c.before.before.before.before.before.before.before.before.before.before.before.if1.false c.before.before.before.before.before.before.before.before.before.before.smaller.ensures c.before.before.before.before.before.before.before.before.before.less.ensures c.before.before.before.before.before.before.before.feed-zeros.ensures c.before.before.before.wanted.ensures c.before.before.push-taken.ensures))
+    (λ c. λ xs. step_some _ _ _ _ xs _ _ _ _ _ _ _ _ _ _ _ c.before.before.before.before.before.before.before.before.before.before.before.if1.false c.before.before.before.before.before.before.before.before.before.before.smaller.ensures c.before.before.before.before.before.before.before.before.before.less.ensures c.before.before.before.before.before.before.before.feed-zeros.ensures c.before.before.before.wanted.ensures c.before.before.push-taken.ensures))

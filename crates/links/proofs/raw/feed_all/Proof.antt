@@ -3,8 +3,8 @@ use Rattle.links.proofs.Feeding.{feeds}
 use Rattle.links.proofs.raw.feed_all.Statement.{statement}
 use Rattle.links.proofs.raw.feed_all.Tie as tie
 
-pub feed-all-spec : {M : Type 1} → statement M
-feed-all-spec =
+pub feed_all_spec : {M : Type 1} → statement M
+feed_all_spec =
     tie.close
     (tie.spec
     (λ c κs. search rules)

@@ -3,8 +3,8 @@ use Rattle.links.proofs.Feeding.{feeds}
 use Rattle.links.proofs.raw.feed_begin.Statement.{statement}
 use Rattle.links.proofs.raw.feed_begin.Tie as tie
 
-pub feed-begin-spec : {M : Type 1} → statement M
-feed-begin-spec =
+pub feed_begin_spec : {M : Type 1} → statement M
+feed_begin_spec =
     tie.close
     (tie.spec
     (λ c κs. search rules)

@@ -3,8 +3,8 @@ use Rattle.links.proofs.Feeding.{feeds}
 use Rattle.links.proofs.raw.feed_end.Statement.{statement}
 use Rattle.links.proofs.raw.feed_end.Tie as tie
 
-pub feed-end-spec : {M : Type 1} → statement M
-feed-end-spec =
+pub feed_end_spec : {M : Type 1} → statement M
+feed_end_spec =
     tie.close
     (tie.spec
     (λ c. search feeds)

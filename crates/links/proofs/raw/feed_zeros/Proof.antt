@@ -3,8 +3,8 @@ use Rattle.links.proofs.Feeding.{feeds}
 use Rattle.links.proofs.raw.feed_zeros.Statement.{statement}
 use Rattle.links.proofs.raw.feed_zeros.Tie as tie
 
-pub feed-zeros-spec : {M : Type 1} → statement M
-feed-zeros-spec =
+pub feed_zeros_spec : {M : Type 1} → statement M
+feed_zeros_spec =
     tie.close
     (tie.spec
     (λ c κs. search rules)

@@ -3,8 +3,8 @@ use Rattle.links.proofs.Targets.{targets}
 use Rattle.links.proofs.target.push_contents.Statement.{statement}
 use Rattle.links.proofs.target.push_contents.Tie as tie
 
-pub push-contents-spec : {M : Type 1} → statement M
-push-contents-spec =
+pub push_contents_spec : {M : Type 1} → statement M
+push_contents_spec =
     tie.close
     (tie.spec
     (λ c. search rules)

@@ -1,14 +1,14 @@
 use borrow.Author.Rules.{rules}
-use Rattle.links.proofs.Targets.{contents-put}
+use Rattle.links.proofs.Targets.{contents_put}
 use Rattle.links.proofs.target.put_contents.Statement.{statement}
 use Rattle.links.proofs.target.put_contents.Tie as tie
 
-pub put-contents-spec : {M : Type 1} → statement M
-put-contents-spec =
+pub put_contents_spec : {M : Type 1} → statement M
+put_contents_spec =
     tie.close
     (tie.spec
     (λ c κs. search rules)
     (λ c κs. search rules)
     (λ c κs. search rules)
     (λ c. search rules)
-    (λ c. contents-put _ _ _ _ _ _ _ _ _ c.before.before.before.before.before.before.before.before.feed-begin.ensures c.before.before.before.before.before.before.push-contents.ensures c.before.before.feed-end.ensures))
+    (λ c. contents_put _ _ _ _ _ _ _ _ _ c.before.before.before.before.before.before.before.before.feed-begin.ensures c.before.before.before.before.before.before.push-contents.ensures c.before.before.feed-end.ensures))

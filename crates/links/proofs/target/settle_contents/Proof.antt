@@ -3,8 +3,8 @@ use Rattle.links.proofs.Targets.{targets}
 use Rattle.links.proofs.target.settle_contents.Statement.{statement}
 use Rattle.links.proofs.target.settle_contents.Tie as tie
 
-pub settle-contents-spec : {M : Type 1} → statement M
-settle-contents-spec =
+pub settle_contents_spec : {M : Type 1} → statement M
+settle_contents_spec =
     tie.close
     (tie.spec
     (λ c. search rules)

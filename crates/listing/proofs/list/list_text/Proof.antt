@@ -3,8 +3,8 @@ use Rattle.listing.proofs.Whole.{all}
 use Rattle.listing.proofs.list.list_text.Statement.{statement}
 use Rattle.listing.proofs.list.list_text.Tie as tie
 
-pub list-text-spec : {M : Type 1} → statement M
-list-text-spec =
+pub list_text_spec : {M : Type 1} → statement M
+list_text_spec =
     tie.close
     (tie.spec
     (λ c κs. search rules)

@@ -4,9 +4,9 @@ use Rattle.listing.proofs.Whole.{all}
 use Rattle.listing.proofs.list.list_volume.Statement.{statement}
 use Rattle.listing.proofs.list.list_volume.Tie as tie
 
-pub list-volume-spec : {M : Type 1} → statement M
+pub list_volume_spec : {M : Type 1} → statement M
 unfolding listing
-list-volume-spec =
+list_volume_spec =
     tie.close
     (tie.spec
     (λ c κs. search rules)

@@ -3,8 +3,8 @@ use Rattle.listing.proofs.Whole.{all}
 use Rattle.listing.proofs.list.put_foot.Statement.{statement}
 use Rattle.listing.proofs.list.put_foot.Tie as tie
 
-pub put-foot-spec : {M : Type 1} → statement M
-put-foot-spec =
+pub put_foot_spec : {M : Type 1} → statement M
+put_foot_spec =
     tie.close
     (tie.spec
     (λ c κs. search all)

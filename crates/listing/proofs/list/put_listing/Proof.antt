@@ -3,8 +3,8 @@ use Rattle.listing.proofs.Whole.{all}
 use Rattle.listing.proofs.list.put_listing.Statement.{statement}
 use Rattle.listing.proofs.list.put_listing.Tie as tie
 
-pub put-listing-spec : {M : Type 1} → statement M
-put-listing-spec =
+pub put_listing_spec : {M : Type 1} → statement M
+put_listing_spec =
     tie.close
     (tie.spec
     (λ c κs. search all)

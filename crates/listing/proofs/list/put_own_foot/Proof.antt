@@ -3,8 +3,8 @@ use Rattle.listing.proofs.Whole.{all}
 use Rattle.listing.proofs.list.put_own_foot.Statement.{statement}
 use Rattle.listing.proofs.list.put_own_foot.Tie as tie
 
-pub put-own-foot-spec : {M : Type 1} → statement M
-put-own-foot-spec =
+pub put_own_foot_spec : {M : Type 1} → statement M
+put_own_foot_spec =
     tie.close
     (tie.spec
     (λ c. search all)

@@ -1,9 +1,9 @@
 use mathlib.Core.Path.{◌≡◌}
 use Rattle.cursor.specs.Left.{run_at}
 use Rattle.cursor.proofs.Through.{rest}
-use Rattle.records.specs.Attribute.{attributeAt}
+use Rattle.records.specs.Attribute.{attribute_at}
 use Rattle.lists.specs.Lists.{placed, list_of}
-use Rattle.lists.specs.Told.{attributePlaced}
+use Rattle.lists.specs.Told.{attribute_placed}
 use Rattle.lists.proofs.Reading.{reading}
 use Rattle.lists.proofs.Laws.{sought}
 use Rattle.lists.proofs.Turns.{turns}
@@ -12,13 +12,13 @@ use Rattle.lists.proofs.attributes.attribute_from.Tie as tie
 
 abbrev invariant-loop : tie.invariant-loop
 invariant-loop image id place q keys kept₀ left₀ s₀ i₀ kept left s i =
-    reading (attributeAt q.keys.reader image) (sought (attributePlaced kept) left) (run_at image q s i) ≡ placed place (list_of (attributeAt q.keys.reader image) (run_at image q s₀ i₀))
+    reading (attribute_at q.keys.reader image) (sought (attribute_placed kept) left) (run_at image q s i) ≡ placed place (list_of (attribute_at q.keys.reader image) (run_at image q s₀ i₀))
 
 abbrev decreases-loop : tie.decreases-loop
 decreases-loop image id place q keys kept₀ left₀ s₀ i₀ kept left s i = rest image q s i
 
-pub attribute-from-spec : {M : Type 1} → statement M
-attribute-from-spec =
+pub attribute_from_spec : {M : Type 1} → statement M
+attribute_from_spec =
     tie.close
     (tie.spec
     invariant-loop

@@ -3,7 +3,7 @@ use Rattle.cursor.specs.Left.{run_at}
 use Rattle.cursor.proofs.Through.{rest}
 use Rattle.records.specs.Directory.{entry_at}
 use Rattle.lists.specs.Lists.{placed, list_of}
-use Rattle.lists.specs.Told.{entryPlaced}
+use Rattle.lists.specs.Told.{entry_placed}
 use Rattle.lists.proofs.Reading.{reading}
 use Rattle.lists.proofs.Laws.{sought}
 use Rattle.lists.proofs.Turns.{turns}
@@ -12,13 +12,13 @@ use Rattle.lists.proofs.entries.entry_from.Tie as tie
 
 abbrev invariant-loop : tie.invariant-loop
 invariant-loop image id place q keys kept₀ left₀ s₀ i₀ kept left s i =
-    reading (entry_at q.keys.hashed q.keys.reader image) (sought (entryPlaced kept) left) (run_at image q s i) ≡ placed place (list_of (entry_at q.keys.hashed q.keys.reader image) (run_at image q s₀ i₀))
+    reading (entry_at q.keys.hashed q.keys.reader image) (sought (entry_placed kept) left) (run_at image q s i) ≡ placed place (list_of (entry_at q.keys.hashed q.keys.reader image) (run_at image q s₀ i₀))
 
 abbrev decreases-loop : tie.decreases-loop
 decreases-loop image id place q keys kept₀ left₀ s₀ i₀ kept left s i = rest image q s i
 
-pub entry-from-spec : {M : Type 1} → statement M
-entry-from-spec =
+pub entry_from_spec : {M : Type 1} → statement M
+entry_from_spec =
     tie.close
     (tie.spec
     invariant-loop

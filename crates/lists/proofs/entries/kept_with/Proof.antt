@@ -3,8 +3,8 @@ use borrow.Author.Rules.{rules}
 use Rattle.lists.proofs.entries.kept_with.Statement.{statement}
 use Rattle.lists.proofs.entries.kept_with.Tie as tie
 
-pub kept-with-spec : {M : Type 1} → statement M
-kept-with-spec =
+pub kept_with_spec : {M : Type 1} → statement M
+kept_with_spec =
     tie.close
     (tie.spec
     (λ c. search rules)

@@ -1,9 +1,9 @@
 use mathlib.Core.Path.{◌≡◌}
 use Rattle.cursor.specs.Left.{run_at}
 use Rattle.cursor.proofs.Through.{rest}
-use Rattle.records.specs.Extent.{extentAt}
+use Rattle.records.specs.Extent.{extent_at}
 use Rattle.lists.specs.Lists.{placed, list_of}
-use Rattle.lists.specs.Told.{extentPlaced}
+use Rattle.lists.specs.Told.{extent_placed}
 use Rattle.lists.proofs.Reading.{reading}
 use Rattle.lists.proofs.Laws.{sought}
 use Rattle.lists.proofs.Turns.{turns}
@@ -12,13 +12,13 @@ use Rattle.lists.proofs.extents.extent_from.Tie as tie
 
 abbrev invariant-loop : tie.invariant-loop
 invariant-loop image id place q keys kept₀ left₀ s₀ i₀ kept left s i =
-    reading (extentAt q.keys.reader image) (sought (extentPlaced kept) left) (run_at image q s i) ≡ placed place (list_of (extentAt q.keys.reader image) (run_at image q s₀ i₀))
+    reading (extent_at q.keys.reader image) (sought (extent_placed kept) left) (run_at image q s i) ≡ placed place (list_of (extent_at q.keys.reader image) (run_at image q s₀ i₀))
 
 abbrev decreases-loop : tie.decreases-loop
 decreases-loop image id place q keys kept₀ left₀ s₀ i₀ kept left s i = rest image q s i
 
-pub extent-from-spec : {M : Type 1} → statement M
-extent-from-spec =
+pub extent_from_spec : {M : Type 1} → statement M
+extent_from_spec =
     tie.close
     (tie.spec
     invariant-loop

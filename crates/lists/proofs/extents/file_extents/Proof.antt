@@ -3,8 +3,8 @@ use Rattle.lists.proofs.Turns.{stored}
 use Rattle.lists.proofs.extents.file_extents.Statement.{statement}
 use Rattle.lists.proofs.extents.file_extents.Tie as tie
 
-pub file-extents-spec : {M : Type 1} → statement M
-file-extents-spec =
+pub file_extents_spec : {M : Type 1} → statement M
+file_extents_spec =
     tie.close
     (tie.spec
     (λ c κs. search rules)

@@ -3,8 +3,8 @@ use Rattle.lists.proofs.Laws.{all}
 use Rattle.lists.proofs.inodes.inode.Statement.{statement}
 use Rattle.lists.proofs.inodes.inode.Tie as tie
 
-pub inode-spec : {M : Type 1} → statement M
-inode-spec =
+pub inode_spec : {M : Type 1} → statement M
+inode_spec =
     tie.close
     (tie.spec
     (λ c κs. search rules)

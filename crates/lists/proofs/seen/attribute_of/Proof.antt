@@ -3,8 +3,8 @@ use borrow.Author.Rules.{rules}
 use Rattle.lists.proofs.seen.attribute_of.Statement.{statement}
 use Rattle.lists.proofs.seen.attribute_of.Tie as tie
 
-pub attribute-of-spec : {M : Type 1} → statement M
-attribute-of-spec =
+pub attribute_of_spec : {M : Type 1} → statement M
+attribute_of_spec =
     tie.close
     (tie.spec
     (λ c κs. search rules)

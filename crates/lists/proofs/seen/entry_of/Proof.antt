@@ -3,8 +3,8 @@ use borrow.Author.Rules.{rules}
 use Rattle.lists.proofs.seen.entry_of.Statement.{statement}
 use Rattle.lists.proofs.seen.entry_of.Tie as tie
 
-pub entry-of-spec : {M : Type 1} → statement M
-entry-of-spec =
+pub entry_of_spec : {M : Type 1} → statement M
+entry_of_spec =
     tie.close
     (tie.spec
     (λ c κs. search rules)

@@ -3,8 +3,8 @@ use borrow.Author.Rules.{rules}
 use Rattle.lists.proofs.seen.extent_of.Statement.{statement}
 use Rattle.lists.proofs.seen.extent_of.Tie as tie
 
-pub extent-of-spec : {M : Type 1} → statement M
-extent-of-spec =
+pub extent_of_spec : {M : Type 1} → statement M
+extent_of_spec =
     tie.close
     (tie.spec
     (λ c κs. search rules)

@@ -3,8 +3,8 @@ use borrow.Author.Rules.{rules}
 use Rattle.lists.proofs.ways.inode_on.Statement.{statement}
 use Rattle.lists.proofs.ways.inode_on.Tie as tie
 
-pub inode-on-spec : {M : Type 1} → statement M
-inode-on-spec =
+pub inode_on_spec : {M : Type 1} → statement M
+inode_on_spec =
     tie.close
     (tie.spec
     (λ c κs. search rules)

@@ -3,8 +3,8 @@ use Rattle.marks.proofs.Fits.{handed}
 use Rattle.marks.proofs.handed.handed_in.Statement.{statement}
 use Rattle.marks.proofs.handed.handed_in.Tie as tie
 
-pub handed-in-spec : {M : Type 1} → statement M
-handed-in-spec =
+pub handed_in_spec : {M : Type 1} → statement M
+handed_in_spec =
     tie.close
     (tie.spec
     (λ c. search handed)

@@ -3,8 +3,8 @@ use Rattle.marks.proofs.Fits.{handed}
 use Rattle.marks.proofs.handed.parts_fit.Statement.{statement}
 use Rattle.marks.proofs.handed.parts_fit.Tie as tie
 
-pub parts-fit-spec : {M : Type 1} → statement M
-parts-fit-spec =
+pub parts_fit_spec : {M : Type 1} → statement M
+parts_fit_spec =
     tie.close
     (tie.spec
     (λ c. search rules)

@@ -3,8 +3,8 @@ use Rattle.marks.proofs.Kept.{written}
 use Rattle.marks.proofs.mark.show_mark.Statement.{statement}
 use Rattle.marks.proofs.mark.show_mark.Tie as tie
 
-pub show-mark-spec : {M : Type 1} → statement M
-show-mark-spec =
+pub show_mark_spec : {M : Type 1} → statement M
+show_mark_spec =
     tie.close
     (tie.spec
     (λ c. search written)

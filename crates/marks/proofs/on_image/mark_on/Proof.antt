@@ -3,8 +3,8 @@ use Rattle.marks.proofs.Calls.{steps}
 use Rattle.marks.proofs.on_image.mark_on.Statement.{statement}
 use Rattle.marks.proofs.on_image.mark_on.Tie as tie
 
-pub mark-on-spec : {M : Type 1} → statement M
-mark-on-spec =
+pub mark_on_spec : {M : Type 1} → statement M
+mark_on_spec =
     tie.close
     (tie.spec
     (λ c κs. search rules)

@@ -3,8 +3,8 @@ use Rattle.marks.proofs.Calls.{steps}
 use Rattle.marks.proofs.on_image.marked_text.Statement.{statement}
 use Rattle.marks.proofs.on_image.marked_text.Tie as tie
 
-pub marked-text-spec : {M : Type 1} → statement M
-marked-text-spec =
+pub marked_text_spec : {M : Type 1} → statement M
+marked_text_spec =
     tie.close
     (tie.spec
     (λ c κs. search rules)

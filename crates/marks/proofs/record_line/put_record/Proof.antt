@@ -1,10 +1,10 @@
 use borrow.Author.Rules.{rules}
-use Rattle.marks.proofs.Lines.{record-put}
+use Rattle.marks.proofs.Lines.{record_put}
 use Rattle.marks.proofs.record_line.put_record.Statement.{statement}
 use Rattle.marks.proofs.record_line.put_record.Tie as tie
 
-pub put-record-spec : {M : Type 1} → statement M
-put-record-spec =
+pub put_record_spec : {M : Type 1} → statement M
+put_record_spec =
     tie.close
     (tie.spec
     (λ c. search rules)
@@ -15,4 +15,4 @@ put-record-spec =
     (λ c. search rules)
     (λ c κs. search rules)
     (λ c. search rules)
-    (λ c. search (rules, record-put)))
+    (λ c. search (rules, record_put)))

@@ -3,8 +3,8 @@ use Rattle.marks.proofs.Lines.{values}
 use Rattle.marks.proofs.record_line.put_value.Statement.{statement}
 use Rattle.marks.proofs.record_line.put_value.Tie as tie
 
-pub put-value-spec : {M : Type 1} → statement M
-put-value-spec =
+pub put_value_spec : {M : Type 1} → statement M
+put_value_spec =
     tie.close
     (tie.spec
     (λ c κs. search rules)

@@ -3,8 +3,8 @@ use Rattle.marks.proofs.Calls.{steps}
 use Rattle.marks.proofs.record_line.show_record.Statement.{statement}
 use Rattle.marks.proofs.record_line.show_record.Tie as tie
 
-pub show-record-spec : {M : Type 1} → statement M
-show-record-spec =
+pub show_record_spec : {M : Type 1} → statement M
+show_record_spec =
     tie.close
     (tie.spec
     (λ c κs. search rules)

@@ -3,8 +3,8 @@ use Rattle.measure.proofs.Lines.{lines}
 use Rattle.measure.proofs.line.measure_text.Statement.{statement}
 use Rattle.measure.proofs.line.measure_text.Tie as tie
 
-pub measure-text-spec : {M : Type 1} → statement M
-measure-text-spec =
+pub measure_text_spec : {M : Type 1} → statement M
+measure_text_spec =
     tie.close
     (tie.spec
     (λ c κs. search rules)

@@ -3,8 +3,8 @@ use Rattle.measure.proofs.Lines.{lines}
 use Rattle.measure.proofs.line.volume_line.Statement.{statement}
 use Rattle.measure.proofs.line.volume_line.Tie as tie
 
-pub volume-line-spec : {M : Type 1} → statement M
-volume-line-spec =
+pub volume_line_spec : {M : Type 1} → statement M
+volume_line_spec =
     tie.close
     (tie.spec
     (λ c. search rules)

@@ -3,8 +3,8 @@ use Rattle.node.proofs.Places.{making}
 use Rattle.node.proofs.place.entry_place.Statement.{statement}
 use Rattle.node.proofs.place.entry_place.Tie as tie
 
-pub entry-place-spec : {M : Type 1} → statement M
-entry-place-spec =
+pub entry_place_spec : {M : Type 1} → statement M
+entry_place_spec =
     tie.close
     (tie.spec
     (λ c κs. search rules)

@@ -3,8 +3,8 @@ use Rattle.node.proofs.Places.{holding}
 use Rattle.node.proofs.place.held_value.Statement.{statement}
 use Rattle.node.proofs.place.held_value.Tie as tie
 
-pub held-value-spec : {M : Type 1} → statement M
-held-value-spec =
+pub held_value_spec : {M : Type 1} → statement M
+held_value_spec =
     tie.close
     (tie.spec
     (λ c κs. search rules)

@@ -3,8 +3,8 @@ use Rattle.node.proofs.Places.{holding}
 use Rattle.node.proofs.place.key_of.Statement.{statement}
 use Rattle.node.proofs.place.key_of.Tie as tie
 
-pub key-of-spec : {M : Type 1} → statement M
-key-of-spec =
+pub key_of_spec : {M : Type 1} → statement M
+key_of_spec =
     tie.close
     (tie.spec
     (λ c κs. search rules)

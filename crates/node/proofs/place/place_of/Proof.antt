@@ -3,8 +3,8 @@ use Rattle.node.proofs.Places.{making}
 use Rattle.node.proofs.place.place_of.Statement.{statement}
 use Rattle.node.proofs.place.place_of.Tie as tie
 
-pub place-of-spec : {M : Type 1} → statement M
-place-of-spec =
+pub place_of_spec : {M : Type 1} → statement M
+place_of_spec =
     tie.close
     (tie.spec
     (λ c. search rules)

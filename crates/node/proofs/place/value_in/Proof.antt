@@ -3,8 +3,8 @@ use Rattle.node.proofs.Places.{holding}
 use Rattle.node.proofs.place.value_in.Statement.{statement}
 use Rattle.node.proofs.place.value_in.Tie as tie
 
-pub value-in-spec : {M : Type 1} → statement M
-value-in-spec =
+pub value_in_spec : {M : Type 1} → statement M
+value_in_spec =
     tie.close
     (tie.spec
     (λ c κs. search rules)

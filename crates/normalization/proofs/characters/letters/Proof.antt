@@ -11,8 +11,8 @@ invariant-loop name caseless words register crc₀ cursor₀ k₀ crc cursor k =
 abbrev decreases-loop : tie.decreases-loop
 decreases-loop name caseless words register crc₀ cursor₀ k₀ crc cursor k = length words - k
 
-pub letters-spec : {M : Type 1} → statement M
-letters-spec =
+pub letters_spec : {M : Type 1} → statement M
+letters_spec =
     tie.close
     (tie.spec
     invariant-loop

@@ -11,8 +11,8 @@ invariant-loop text register₀ c₀ at₀ register c at = at ≤ length text
 abbrev decreases-loop : tie.decreases-loop
 decreases-loop text register₀ c₀ at₀ register c at = length text - at
 
-pub hash-of-spec : {M : Type 1} → statement M
-hash-of-spec =
+pub hash_of_spec : {M : Type 1} → statement M
+hash_of_spec =
     tie.close
     (tie.spec
     invariant-loop

@@ -6,8 +6,8 @@ use borrow.Author.Rules.{rules}
 use Rattle.normalization.proofs.record.filled.Statement.{statement}
 use Rattle.normalization.proofs.record.filled.Tie as tie
 
-pub filled-spec : {M : Type 1} → statement M
-filled-spec =
+pub filled_spec : {M : Type 1} → statement M
+filled_spec =
     tie.close
     (tie.spec
     (λ c. search rules)

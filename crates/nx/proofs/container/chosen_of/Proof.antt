@@ -4,9 +4,9 @@ use Rattle.nx.proofs.Laws.{all}
 use Rattle.nx.proofs.container.chosen_of.Statement.{statement}
 use Rattle.nx.proofs.container.chosen_of.Tie as tie
 
-pub chosen-of-spec : {M : Type 1} → statement M
+pub chosen_of_spec : {M : Type 1} → statement M
 unfolding chosen_of
-chosen-of-spec =
+chosen_of_spec =
     tie.close
     (tie.spec
     (λ c κs. search rules)

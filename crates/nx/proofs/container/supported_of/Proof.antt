@@ -3,9 +3,9 @@ use Rattle.nx.proofs.Laws.{all}
 use Rattle.nx.proofs.container.supported_of.Statement.{statement}
 use Rattle.nx.proofs.container.supported_of.Tie as tie
 
-pub supported-of-spec : {M : Type 1} → statement M
+pub supported_of_spec : {M : Type 1} → statement M
 unfolding supported
-supported-of-spec =
+supported_of_spec =
     tie.close
     (tie.spec
     (λ c. search all)

@@ -3,8 +3,8 @@ use Rattle.nx.proofs.SlotTurns.{slots}
 use Rattle.nx.proofs.slots.slot_at.Statement.{statement}
 use Rattle.nx.proofs.slots.slot_at.Tie as tie
 
-pub slot-at-spec : {M : Type 1} → statement M
-slot-at-spec =
+pub slot_at_spec : {M : Type 1} → statement M
+slot_at_spec =
     tie.close
     (tie.spec
     (λ c. search rules)

@@ -1,12 +1,12 @@
 use borrow.Author.Rules.{rules}
-use Rattle.nx.specs.Volume.{volumeBlock}
+use Rattle.nx.specs.Volume.{volume_block}
 use Rattle.nx.proofs.Laws.{all, parts}
 use Rattle.nx.proofs.volume.volume_block.Statement.{statement}
 use Rattle.nx.proofs.volume.volume_block.Tie as tie
 
-pub volume-block-spec : {M : Type 1} → statement M
-unfolding volumeBlock
-volume-block-spec =
+pub volume_block_spec : {M : Type 1} → statement M
+unfolding volume_block
+volume_block_spec =
     tie.close
     (tie.spec
     (λ c κs. search rules)

@@ -4,8 +4,8 @@ use Rattle.paths.proofs.Chosen.{weighing}
 use Rattle.paths.proofs.choose.by_key.Statement.{statement}
 use Rattle.paths.proofs.choose.by_key.Tie as tie
 
-pub by-key-spec : {M : Type 1} → statement M
-by-key-spec =
+pub by_key_spec : {M : Type 1} → statement M
+by_key_spec =
     tie.close
     (tie.spec
     (λ c κs. search rules)

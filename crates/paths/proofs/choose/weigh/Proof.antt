@@ -3,8 +3,8 @@ use Rattle.paths.proofs.Chosen.{weighing}
 use Rattle.paths.proofs.choose.weigh.Statement.{statement}
 use Rattle.paths.proofs.choose.weigh.Tie as tie
 
-pub weigh-spec : {M : Type 1} → statement M
-weigh-spec =
+pub weigh_spec : {M : Type 1} → statement M
+weigh_spec =
     tie.close
     (tie.spec
     (λ c. search rules)

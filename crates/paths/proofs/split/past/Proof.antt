@@ -3,7 +3,7 @@ use mathlib.Core.Path.{◌≡◌}
 use lib.ListN.{length, drop}
 use Rattle.paths.specs.Inner.{leading}
 use Rattle.paths.proofs.Laws.{all}
-use Rattle.paths.proofs.Parts.{past-done, past-stops, past-goes}
+use Rattle.paths.proofs.Parts.{past_done, past_stops, past_goes}
 use Rattle.paths.proofs.split.past.Statement.{statement}
 use Rattle.paths.proofs.split.past.Tie as tie
 
@@ -13,10 +13,10 @@ invariant-loop path at separators i₀ i = i + leading separators (drop i path) 
 abbrev decreases-loop : tie.decreases-loop
 decreases-loop path at separators i₀ i = length path - i
 
-ruleset turns = (all, past-done, past-stops, past-goes)
+ruleset turns = (all, past_done, past_stops, past_goes)
 
-pub past-spec : {M : Type 1} → statement M
-past-spec =
+pub past_spec : {M : Type 1} → statement M
+past_spec =
     tie.close
     (tie.spec
     invariant-loop

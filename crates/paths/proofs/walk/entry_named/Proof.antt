@@ -1,23 +1,23 @@
-use Rattle.lists.proofs.Turns.{entry-passed}
+use Rattle.lists.proofs.Turns.{entry_passed}
 use mathlib.Core.Path.{◌≡◌}
-use Rattle.btree.specs.Scan.{scanOf}
+use Rattle.btree.specs.Scan.{scan_of}
 use Rattle.cursor.specs.Left.{run_at}
 use Rattle.cursor.proofs.Through.{rest}
 use Rattle.records.specs.Directory.{entry_at}
-use Rattle.lists.proofs.Reading.{reading, list-passed}
-use Rattle.paths.proofs.Directory.{choosing, foundIn, turns, entries-start}
+use Rattle.lists.proofs.Reading.{reading, list_passed}
+use Rattle.paths.proofs.Directory.{choosing, found_in, turns, entries_start}
 use Rattle.paths.proofs.walk.entry_named.Statement.{statement}
 use Rattle.paths.proofs.walk.entry_named.Tie as tie
 
 abbrev invariant-loop : tie.invariant-loop
 invariant-loop image id part nodes q keys reader rule choice₀ s₀ i₀ choice s i =
-    reading (entry_at q.keys.hashed q.keys.reader image) (choosing rule reader image part choice) (run_at image q s i) ≡ foundIn rule reader image part (entry_at q.keys.hashed q.keys.reader image) (scanOf image q nodes)
+    reading (entry_at q.keys.hashed q.keys.reader image) (choosing rule reader image part choice) (run_at image q s i) ≡ found_in rule reader image part (entry_at q.keys.hashed q.keys.reader image) (scan_of image q nodes)
 
 abbrev decreases-loop : tie.decreases-loop
 decreases-loop image id part nodes q keys reader rule choice₀ s₀ i₀ choice s i = rest image q s i
 
-pub entry-named-spec : {M : Type 1} → statement M
-entry-named-spec =
+pub entry_named_spec : {M : Type 1} → statement M
+entry_named_spec =
     tie.close
     (tie.spec
     invariant-loop
@@ -26,7 +26,7 @@ entry-named-spec =
     (λ c κs. search turns)
     (λ c κs. search turns)
     (λ c κs. search turns)
-    (λ c. entries-start _ _ _ _ _ _ _ _ c.before.none_yet.ensures c.first.ensures.run)
+    (λ c. entries_start _ _ _ _ _ _ _ _ c.before.none_yet.ensures c.first.ensures.run)
     (λ c κs. search turns)
     (λ c. search turns)
     (λ c κs. search turns)
@@ -38,7 +38,7 @@ entry-named-spec =
     (λ c. search turns)
     (λ c κs. search turns)
     (λ c. search turns)
-    (λ c. list-passed _ _ _ _ _ _ c.before.before.before.before.entry_in.ensures _ _ c.before.before.before.before.before.loop.invariant _ (entry-passed _ c.before.before.enum-told2.given.1) c.next.ensures)
+    (λ c. list_passed _ _ _ _ _ _ c.before.before.before.before.entry_in.ensures _ _ c.before.before.before.before.before.loop.invariant _ (entry_passed _ c.before.before.enum-told2.given.1) c.next.ensures)
     (λ c. search turns)
     (λ c κs. search turns)
     (λ c κs. search turns)

@@ -11,8 +11,8 @@ invariant-loop image v path nodes found₀ p₀ found p = Walking image v path n
 abbrev decreases-loop : tie.decreases-loop
 decreases-loop image v path nodes found₀ p₀ found p = length path - p.start
 
-pub lookup-path-spec : {M : Type 1} → statement M
-lookup-path-spec =
+pub lookup_path_spec : {M : Type 1} → statement M
+lookup_path_spec =
     tie.close
     (tie.spec
     invariant-loop

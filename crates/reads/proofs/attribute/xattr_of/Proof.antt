@@ -3,8 +3,8 @@ use Rattle.calls.proofs.Steps.{counts}
 use Rattle.reads.proofs.attribute.xattr_of.Statement.{statement}
 use Rattle.reads.proofs.attribute.xattr_of.Tie as tie
 
-pub xattr-of-spec : {M : Type 1} → statement M
-xattr-of-spec =
+pub xattr_of_spec : {M : Type 1} → statement M
+xattr_of_spec =
     tie.close
     (tie.spec
     (λ c κs. search rules)

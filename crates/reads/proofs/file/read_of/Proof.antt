@@ -3,8 +3,8 @@ use Rattle.calls.proofs.Steps.{counts}
 use Rattle.reads.proofs.file.read_of.Statement.{statement}
 use Rattle.reads.proofs.file.read_of.Tie as tie
 
-pub read-of-spec : {M : Type 1} → statement M
-read-of-spec =
+pub read_of_spec : {M : Type 1} → statement M
+read_of_spec =
     tie.close
     (tie.spec
     (λ c κs. search rules)

@@ -4,9 +4,9 @@ use Rattle.calls.proofs.Steps.{onward}
 use Rattle.reads.proofs.file.read_on.Statement.{statement}
 use Rattle.reads.proofs.file.read_on.Tie as tie
 
-pub read-on-spec : {M : Type 1} → statement M
+pub read_on_spec : {M : Type 1} → statement M
 unfolding read_on
-read-on-spec =
+read_on_spec =
     tie.close
     (tie.spec
     (λ c κs. search rules)

@@ -1,12 +1,12 @@
 use borrow.Author.Rules.{rules}
-use Rattle.reads.specs.Reads.{readCounted}
+use Rattle.reads.specs.Reads.{read_counted}
 use Rattle.calls.proofs.Steps.{onward}
 use Rattle.reads.proofs.file.read_text.Statement.{statement}
 use Rattle.reads.proofs.file.read_text.Tie as tie
 
-pub read-text-spec : {M : Type 1} → statement M
-unfolding readCounted
-read-text-spec =
+pub read_text_spec : {M : Type 1} → statement M
+unfolding read_counted
+read_text_spec =
     tie.close
     (tie.spec
     (λ c κs. search rules)

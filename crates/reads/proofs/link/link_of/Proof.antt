@@ -3,8 +3,8 @@ use Rattle.calls.proofs.Steps.{counts}
 use Rattle.reads.proofs.link.link_of.Statement.{statement}
 use Rattle.reads.proofs.link.link_of.Tie as tie
 
-pub link-of-spec : {M : Type 1} → statement M
-link-of-spec =
+pub link_of_spec : {M : Type 1} → statement M
+link_of_spec =
     tie.close
     (tie.spec
     (λ c κs. search rules)

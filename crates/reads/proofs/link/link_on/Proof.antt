@@ -1,12 +1,12 @@
 use borrow.Author.Rules.{rules}
-use Rattle.reads.specs.Reads.{linkOn}
+use Rattle.reads.specs.Reads.{link_on}
 use Rattle.calls.proofs.Steps.{onward}
 use Rattle.reads.proofs.link.link_on.Statement.{statement}
 use Rattle.reads.proofs.link.link_on.Tie as tie
 
-pub link-on-spec : {M : Type 1} → statement M
-unfolding linkOn
-link-on-spec =
+pub link_on_spec : {M : Type 1} → statement M
+unfolding link_on
+link_on_spec =
     tie.close
     (tie.spec
     (λ c κs. search rules)

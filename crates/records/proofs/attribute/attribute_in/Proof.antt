@@ -1,12 +1,12 @@
 use borrow.Author.Rules.{rules}
-use Rattle.records.specs.Attribute.{attributeValue}
+use Rattle.records.specs.Attribute.{attribute_value}
 use Rattle.records.proofs.Laws.{all}
 use Rattle.records.proofs.attribute.attribute_in.Statement.{statement}
 use Rattle.records.proofs.attribute.attribute_in.Tie as tie
 
-pub attribute-in-spec : {M : Type 1} → statement M
-unfolding attributeValue
-attribute-in-spec =
+pub attribute_in_spec : {M : Type 1} → statement M
+unfolding attribute_value
+attribute_in_spec =
     tie.close
     (tie.spec
     (λ c κs. search rules)

@@ -1,12 +1,12 @@
 use borrow.Author.Rules.{rules}
-use Rattle.records.specs.Attribute.{dataIn}
+use Rattle.records.specs.Attribute.{data_in}
 use Rattle.records.proofs.Laws.{all, parts}
 use Rattle.records.proofs.attribute.data_in.Statement.{statement}
 use Rattle.records.proofs.attribute.data_in.Tie as tie
 
-pub data-in-spec : {M : Type 1} → statement M
-unfolding dataIn
-data-in-spec =
+pub data_in_spec : {M : Type 1} → statement M
+unfolding data_in
+data_in_spec =
     tie.close
     (tie.spec
     (λ c κs. search rules)

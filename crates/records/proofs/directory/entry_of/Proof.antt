@@ -4,9 +4,9 @@ use Rattle.records.proofs.Laws.{all, parts}
 use Rattle.records.proofs.directory.entry_of.Statement.{statement}
 use Rattle.records.proofs.directory.entry_of.Tie as tie
 
-pub entry-of-spec : {M : Type 1} → statement M
+pub entry_of_spec : {M : Type 1} → statement M
 unfolding entry_of
-entry-of-spec =
+entry_of_spec =
     tie.close
     (tie.spec
     (λ c κs. search rules)

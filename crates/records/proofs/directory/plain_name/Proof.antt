@@ -1,12 +1,12 @@
 use borrow.Author.Rules.{rules}
-use Rattle.records.specs.Directory.{plainName}
-use Rattle.records.proofs.Laws.{all, same-to, other-to}
+use Rattle.records.specs.Directory.{plain_name}
+use Rattle.records.proofs.Laws.{all, same_to, other_to}
 use Rattle.records.proofs.directory.plain_name.Statement.{statement}
 use Rattle.records.proofs.directory.plain_name.Tie as tie
 
-pub plain-name-spec : {M : Type 1} → statement M
-unfolding plainName
-plain-name-spec =
+pub plain_name_spec : {M : Type 1} → statement M
+unfolding plain_name
+plain_name_spec =
     tie.close
     (tie.spec
     (λ c κs. search rules)
@@ -16,5 +16,5 @@ plain-name-spec =
     (λ c. search all)
     (λ c κs. search rules)
     (λ c. search rules)
-    (λ c. search (all, same-to, other-to))
-    (λ c. search (all, same-to, other-to)))
+    (λ c. search (all, same_to, other_to))
+    (λ c. search (all, same_to, other_to)))

@@ -1,12 +1,12 @@
 use borrow.Author.Rules.{rules}
-use Rattle.replaced_line.specs.Line.{linkOn}
+use Rattle.replaced_line.specs.Line.{link_on}
 use Rattle.replaced_line.proofs.ByKind.{kinds}
 use Rattle.replaced_line.proofs.kinds.link_on.Statement.{statement}
 use Rattle.replaced_line.proofs.kinds.link_on.Tie as tie
 
-pub link-on-spec : {M : Type 1} → statement M
-unfolding linkOn
-link-on-spec =
+pub link_on_spec : {M : Type 1} → statement M
+unfolding link_on
+link_on_spec =
     tie.close
     (tie.spec
     (λ c κs. search rules)

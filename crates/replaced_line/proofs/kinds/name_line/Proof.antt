@@ -3,8 +3,8 @@ use Rattle.replaced_line.proofs.ByKind.{kinds}
 use Rattle.replaced_line.proofs.kinds.name_line.Statement.{statement}
 use Rattle.replaced_line.proofs.kinds.name_line.Tie as tie
 
-pub name-line-spec : {M : Type 1} → statement M
-name-line-spec =
+pub name_line_spec : {M : Type 1} → statement M
+name_line_spec =
     tie.close
     (tie.spec
     (λ c. search rules)

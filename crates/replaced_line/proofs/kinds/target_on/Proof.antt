@@ -3,8 +3,8 @@ use Rattle.replaced_line.proofs.ByKind.{kinds}
 use Rattle.replaced_line.proofs.kinds.target_on.Statement.{statement}
 use Rattle.replaced_line.proofs.kinds.target_on.Tie as tie
 
-pub target-on-spec : {M : Type 1} → statement M
-target-on-spec =
+pub target_on_spec : {M : Type 1} → statement M
+target_on_spec =
     tie.close
     (tie.spec
     (λ c κs. search rules)

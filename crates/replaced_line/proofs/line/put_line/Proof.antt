@@ -1,13 +1,13 @@
 use mathlib.Core.Path.{refl}
 use borrow.Author.Rules.{rules}
-use Rattle.replaced_line.specs.Line.{replacedLine}
-use Rattle.text.proofs.Writing.{then-literal, then-digits}
+use Rattle.replaced_line.specs.Line.{replaced_line}
+use Rattle.text.proofs.Writing.{then_literal, then_digits}
 use Rattle.replaced_line.proofs.line.put_line.Statement.{statement}
 use Rattle.replaced_line.proofs.line.put_line.Tie as tie
 
-pub put-line-spec : {M : Type 1} → statement M
-unfolding replacedLine
-put-line-spec =
+pub put_line_spec : {M : Type 1} → statement M
+unfolding replaced_line
+put_line_spec =
     tie.close
     (tie.spec
     (λ c. search rules)
@@ -16,4 +16,4 @@ put-line-spec =
     (λ c. search rules)
     (λ c κs. search rules)
     (λ c. search rules)
-    (λ c. then-literal _ _ _ _ _ _ c.before.before.before.before.before.before.before.before.before.before.before.put_all_lem.ensures refl (then-digits _ _ _ _ _ _ c.before.before.before.before.before.before.before.put-decimal.ensures c.before.before.put-all2.ensures)))
+    (λ c. then_literal _ _ _ _ _ _ c.before.before.before.before.before.before.before.before.before.before.before.put_all_lem.ensures refl (then_digits _ _ _ _ _ _ c.before.before.before.before.before.before.before.put-decimal.ensures c.before.before.put-all2.ensures)))

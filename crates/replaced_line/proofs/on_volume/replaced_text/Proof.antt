@@ -1,12 +1,12 @@
 use borrow.Author.Rules.{rules}
-use Rattle.replaced_line.specs.Line.{replacedCounted}
+use Rattle.replaced_line.specs.Line.{replaced_counted}
 use Rattle.replaced_line.proofs.ByKind.{kinds}
 use Rattle.replaced_line.proofs.on_volume.replaced_text.Statement.{statement}
 use Rattle.replaced_line.proofs.on_volume.replaced_text.Tie as tie
 
-pub replaced-text-spec : {M : Type 1} → statement M
-unfolding replacedCounted
-replaced-text-spec =
+pub replaced_text_spec : {M : Type 1} → statement M
+unfolding replaced_counted
+replaced_text_spec =
     tie.close
     (tie.spec
     (λ c κs. search rules)

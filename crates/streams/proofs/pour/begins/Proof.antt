@@ -3,8 +3,8 @@ use Rattle.streams.proofs.Pouring.{begin}
 use Rattle.streams.proofs.pour.begins.Statement.{statement}
 use Rattle.streams.proofs.pour.begins.Tie as tie
 
-pub begins-spec : {M : Type 1} → statement M
-begins-spec =
+pub begins_spec : {M : Type 1} → statement M
+begins_spec =
     tie.close
     (tie.spec
     (λ c κs. search rules)

@@ -1,28 +1,28 @@
 use mathlib.Core.Path.{◌≡◌, refl}
 use mathlib.Core.List.{[]}
 use lib.ListN.{length}
-use Rattle.text.specs.Output.{outputOf, puts}
+use Rattle.text.specs.Output.{output_of, puts}
 use Rattle.text.specs.Words.{pairs}
 use Rattle.cursor.specs.Left.{run_at}
 use Rattle.cursor.proofs.Through.{rest}
-use Rattle.records.specs.Extent.{extentAt}
-use Rattle.extents.specs.Extents.{diskOf}
-use Rattle.lists.proofs.Turns.{extent-over, extent-one, extent-refused}
-use Rattle.streams.specs.Inner.{runBytes}
-use Rattle.streams.proofs.Pouring.{pouring, pour-end, pour-no, pour-passed, pour-next, pour-done}
+use Rattle.records.specs.Extent.{extent_at}
+use Rattle.extents.specs.Extents.{disk_of}
+use Rattle.lists.proofs.Turns.{extent_over, extent_one, extent_refused}
+use Rattle.streams.specs.Inner.{run_bytes}
+use Rattle.streams.proofs.Pouring.{pouring, pour_end, pour_no, pour_passed, pour_next, pour_done}
 use Rattle.streams.proofs.pour.put_stream_from.Statement.{statement}
 use Rattle.streams.proofs.pour.put_stream_from.Tie as tie
 
 abbrev invariant-loop : tie.invariant-loop
 invariant-loop out₀ room image object size q keys reader o₀ pos₀ s₀ i₀ out o pos s i =
-    (puts room (pairs (runBytes (extentAt q.keys.reader image) (diskOf reader image) size pos (run_at image q s i)) []) (outputOf o out)
-    ≡ puts room (pairs (runBytes (extentAt q.keys.reader image) (diskOf reader image) size 0 (run_at image q s₀ i₀)) []) (outputOf o₀ out₀)) × (length out ≡ length out₀)
+    (puts room (pairs (run_bytes (extent_at q.keys.reader image) (disk_of reader image) size pos (run_at image q s i)) []) (output_of o out)
+    ≡ puts room (pairs (run_bytes (extent_at q.keys.reader image) (disk_of reader image) size 0 (run_at image q s₀ i₀)) []) (output_of o₀ out₀)) × (length out ≡ length out₀)
 
 abbrev decreases-loop : tie.decreases-loop
 decreases-loop out₀ room image object size q keys reader o₀ pos₀ s₀ i₀ out o pos s i = rest image q s i
 
-pub put-stream-from-spec : {M : Type 1} → statement M
-put-stream-from-spec =
+pub put_stream_from_spec : {M : Type 1} → statement M
+put_stream_from_spec =
     tie.close
     (tie.spec
     invariant-loop
@@ -38,16 +38,16 @@ put-stream-from-spec =
     (λ c κs. search pouring)
     (λ c κs. search pouring)
     (λ c. search pouring)
-    (λ c. pour-done _ _ c.before.before.before.before.before.before.before.before.before.before.before.before.before.before.before.before.args.v _ _ _ _ _ _ c.before.before.before.before.before.before.before.before.before.before.before.before.before.search.ensures (pour-end _ _ _ _ _ _ _ _ _ c.before.before.before.before.before.before.before.extent-in.ensures _ _ _ c.before.before.before.before.before.before.before.before.before.before.loop.invariant.0 _ _ (extent-over _ c.before.before.before.before.before.enum-told2.given.1) c.before.before.before.less.ensures c.before.before.put-zeros.ensures))
+    (λ c. pour_done _ _ c.before.before.before.before.before.before.before.before.before.before.before.before.before.before.before.before.args.v _ _ _ _ _ _ c.before.before.before.before.before.before.before.before.before.before.before.before.before.search.ensures (pour_end _ _ _ _ _ _ _ _ _ c.before.before.before.before.before.before.before.extent-in.ensures _ _ _ c.before.before.before.before.before.before.before.before.before.before.loop.invariant.0 _ _ (extent_over _ c.before.before.before.before.before.enum-told2.given.1) c.before.before.before.less.ensures c.before.before.put-zeros.ensures))
     (λ c. search pouring)
     (λ c. search pouring)
-    (λ c. pour-done _ _ c.before.before.before.before.before.before.before.before.before.before.before.args.v _ _ _ _ _ _ c.before.before.before.before.before.before.before.before.search.ensures (pour-no _ _ _ _ _ _ _ _ _ c.before.before.extent-in.ensures _ _ _ c.before.before.before.before.before.loop.invariant.0 _ (extent-refused _ _ c.enum-told3.given.1)))
-    (λ c. search pouring)
-    (λ c κs. search pouring)
-    (λ c. search pouring)
-    (λ c. (pour-passed _ _ _ _ _ _ _ _ _ c.before.before.before.before.extent-in.ensures _ _ _ c.before.before.before.before.before.before.before.loop.invariant.0 _ (search pouring) c.next.ensures, c.before.before.before.before.before.before.before.loop.invariant.1))
+    (λ c. pour_done _ _ c.before.before.before.before.before.before.before.before.before.before.before.args.v _ _ _ _ _ _ c.before.before.before.before.before.before.before.before.search.ensures (pour_no _ _ _ _ _ _ _ _ _ c.before.before.extent-in.ensures _ _ _ c.before.before.before.before.before.loop.invariant.0 _ (extent_refused _ _ c.enum-told3.given.1)))
     (λ c. search pouring)
     (λ c κs. search pouring)
+    (λ c. search pouring)
+    (λ c. (pour_passed _ _ _ _ _ _ _ _ _ c.before.before.before.before.extent-in.ensures _ _ _ c.before.before.before.before.before.before.before.loop.invariant.0 _ (search pouring) c.next.ensures, c.before.before.before.before.before.before.before.loop.invariant.1))
+    (λ c. search pouring)
+    (λ c κs. search pouring)
     (λ c κs. search pouring)
     (λ c. search pouring)
-    (λ c. (pour-next _ _ _ _ _ _ _ _ _ c.before.before.before.before.before.before.before.before.extent-in.ensures _ _ _ c.before.before.before.before.before.before.before.before.before.before.before.loop.invariant.0 _ _ _ _ (extent-one _ _ _ c.before.before.before.before.before.before.e.given.1) c.before.before.before.put_step.ensures c.next-pos.ensures, let l = c.before.before.before.before.before.before.before.before.before.before.before.loop.invariant.1 in search pouring)))
+    (λ c. (pour_next _ _ _ _ _ _ _ _ _ c.before.before.before.before.before.before.before.before.extent-in.ensures _ _ _ c.before.before.before.before.before.before.before.before.before.before.before.loop.invariant.0 _ _ _ _ (extent_one _ _ _ c.before.before.before.before.before.before.e.given.1) c.before.before.before.put_step.ensures c.next-pos.ensures, let l = c.before.before.before.before.before.before.before.before.before.before.before.loop.invariant.1 in search pouring)))

@@ -3,8 +3,8 @@ use Rattle.streams.proofs.Pouring.{pours}
 use Rattle.streams.proofs.pour.put_taken.Statement.{statement}
 use Rattle.streams.proofs.pour.put_taken.Tie as tie
 
-pub put-taken-spec : {M : Type 1} → statement M
-put-taken-spec =
+pub put_taken_spec : {M : Type 1} → statement M
+put_taken_spec =
     tie.close
     (tie.spec
     (λ c κs. search rules)

@@ -3,8 +3,8 @@ use Rattle.streams.proofs.TooLong.{long}
 use Rattle.streams.proofs.pour.put_zeros.Statement.{statement}
 use Rattle.streams.proofs.pour.put_zeros.Tie as tie
 
-pub put-zeros-spec : {M : Type 1} → statement M
-put-zeros-spec =
+pub put_zeros_spec : {M : Type 1} → statement M
+put_zeros_spec =
     tie.close
     (tie.spec
     (λ c. search rules)

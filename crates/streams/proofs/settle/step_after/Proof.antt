@@ -3,8 +3,8 @@ use Rattle.streams.proofs.Laws.{steps}
 use Rattle.streams.proofs.settle.step_after.Statement.{statement}
 use Rattle.streams.proofs.settle.step_after.Tie as tie
 
-pub step-after-spec : {M : Type 1} → statement M
-step-after-spec =
+pub step_after_spec : {M : Type 1} → statement M
+step_after_spec =
     tie.close
     (tie.spec
     (λ c. search rules)

@@ -3,8 +3,8 @@ use Rattle.streams.proofs.Laws.{all}
 use Rattle.streams.proofs.step.next_pos.Statement.{statement}
 use Rattle.streams.proofs.step.next_pos.Tie as tie
 
-pub next-pos-spec : {M : Type 1} → statement M
-next-pos-spec =
+pub next_pos_spec : {M : Type 1} → statement M
+next_pos_spec =
     tie.close
     (tie.spec
     (λ c. search all)

@@ -3,8 +3,8 @@ use Rattle.streams.proofs.Laws.{steps}
 use Rattle.streams.proofs.step.ready_at.Statement.{statement}
 use Rattle.streams.proofs.step.ready_at.Tie as tie
 
-pub ready-at-spec : {M : Type 1} → statement M
-ready-at-spec =
+pub ready_at_spec : {M : Type 1} → statement M
+ready_at_spec =
     tie.close
     (tie.spec
     (λ c. search steps)

@@ -3,8 +3,8 @@ use Rattle.streams.proofs.Laws.{all}
 use Rattle.streams.proofs.step.wanted.Statement.{statement}
 use Rattle.streams.proofs.step.wanted.Tie as tie
 
-pub wanted-spec : {M : Type 1} → statement M
-wanted-spec =
+pub wanted_spec : {M : Type 1} → statement M
+wanted_spec =
     tie.close
     (tie.spec
     (λ c κs. search rules)

@@ -5,26 +5,26 @@ use lib.ListN.{length}
 use borrow.Author.Rules.{rules}
 use Rattle.cursor.specs.Left.{run_at}
 use Rattle.cursor.proofs.Through.{rest}
-use Rattle.records.specs.Attribute.{attributeAt}
+use Rattle.records.specs.Attribute.{attribute_at}
 use Rattle.lists.specs.Inner.{readable}
-use Rattle.lists.proofs.Turns.{seens, attribute-one}
-use Rattle.lists.proofs.Reading.{less-at, less-passed}
+use Rattle.lists.proofs.Turns.{seens, attribute_one}
+use Rattle.lists.proofs.Reading.{less_at, less_passed}
 use Rattle.tally.specs.Weight.{cap}
-use Rattle.tally.proofs.Counting.{count-over, count_no, count-passed, count_next, count_small, count-done}
+use Rattle.tally.proofs.Counting.{count_over, count_no, count_passed, count_next, count_small, count_done}
 use Rattle.tally.proofs.own.count_attributes.Statement.{statement}
 use Rattle.tally.proofs.own.count_attributes.Tie as tie
 
 abbrev invariant-loop : tie.invariant-loop
 invariant-loop image id q keys n₀ s₀ i₀ n s i =
-    (cap (n + length (readable (attributeAt q.keys.reader image) (run_at image q s i))) ≡ cap (0 + length (readable (attributeAt q.keys.reader image) (run_at image q s₀ i₀)))) × (n ≤ 2 ^ 64 - 1)
+    (cap (n + length (readable (attribute_at q.keys.reader image) (run_at image q s i))) ≡ cap (0 + length (readable (attribute_at q.keys.reader image) (run_at image q s₀ i₀)))) × (n ≤ 2 ^ 64 - 1)
 
 abbrev decreases-loop : tie.decreases-loop
 decreases-loop image id q keys n₀ s₀ i₀ n s i = rest image q s i
 
-ruleset turns = (rules, seens, less-at, less-passed, count-over, count_no, count-passed, count_next, count_small, count-done)
+ruleset turns = (rules, seens, less_at, less_passed, count_over, count_no, count_passed, count_next, count_small, count_done)
 
-pub count-attributes-spec : {M : Type 1} → statement M
-count-attributes-spec =
+pub count_attributes_spec : {M : Type 1} → statement M
+count_attributes_spec =
     tie.close
     (tie.spec
     invariant-loop
@@ -43,4 +43,4 @@ count-attributes-spec =
     (λ c. search turns)
     (λ c κs. search rules)
     (λ c. search turns)
-    (λ c. (count_next _ _ _ _ _ _ c.before.before.before.before.before.loop.invariant.0 c.before.before.before.before.before.loop.invariant.1 _ c.before.before.before.before.attribute-in.ensures _ _ _ (attribute-one _ _ _ c.before.before.after.given.1) c.add.ensures, count_small _ _ c.add.ensures)))
+    (λ c. (count_next _ _ _ _ _ _ c.before.before.before.before.before.loop.invariant.0 c.before.before.before.before.before.loop.invariant.1 _ c.before.before.before.before.attribute-in.ensures _ _ _ (attribute_one _ _ _ c.before.before.after.given.1) c.add.ensures, count_small _ _ c.add.ensures)))

@@ -9,8 +9,8 @@ invariant-loop width off₀ off = off ≤ 12
 abbrev decreases-loop : tie.decreases-loop
 decreases-loop width off₀ off = 12 - off
 
-pub show-all-spec : {M : Type 1} → statement M
-show-all-spec =
+pub show_all_spec : {M : Type 1} → statement M
+show_all_spec =
     tie.close
     (tie.spec
     invariant-loop

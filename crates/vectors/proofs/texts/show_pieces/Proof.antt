@@ -10,8 +10,8 @@ invariant-loop text at₀ at = at ≤ length text
 abbrev decreases-loop : tie.decreases-loop
 decreases-loop text at₀ at = length text - at
 
-pub show-pieces-spec : {M : Type 1} → statement M
-show-pieces-spec =
+pub show_pieces_spec : {M : Type 1} → statement M
+show_pieces_spec =
     tie.close
     (tie.spec
     invariant-loop

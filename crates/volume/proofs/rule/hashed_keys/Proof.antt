@@ -3,8 +3,8 @@ use Rattle.volume.proofs.Rules.{rules}
 use Rattle.volume.proofs.rule.hashed_keys.Statement.{statement}
 use Rattle.volume.proofs.rule.hashed_keys.Tie as tie
 
-pub hashed-keys-spec : {M : Type 1} → statement M
-hashed-keys-spec =
+pub hashed_keys_spec : {M : Type 1} → statement M
+hashed_keys_spec =
     tie.close
     (tie.spec
     (λ c κs. search rules)

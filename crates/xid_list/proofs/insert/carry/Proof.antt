@@ -3,8 +3,8 @@ use Rattle.xid_list.proofs.Inserts.{carrying}
 use Rattle.xid_list.proofs.insert.carry.Statement.{statement}
 use Rattle.xid_list.proofs.insert.carry.Tie as tie
 
-pub carry-spec : {M : Type 1} → statement M
-carry-spec =
+pub carry_spec : {M : Type 1} → statement M
+carry_spec =
     tie.close
     (tie.spec
     (λ c κs. search rules)

@@ -5,19 +5,19 @@ use lib.ListN.{length}
 use lib.Seq.{sets}
 use Rattle.checkpoints.specs.Numbers.{insert}
 use Rattle.xid_list.specs.Listed.{bytes_of}
-use Rattle.xid_list.specs.Inner.{heldIn}
+use Rattle.xid_list.specs.Inner.{held_in}
 use Rattle.xid_list.proofs.Inserts.{inserting}
 use Rattle.xid_list.proofs.insert.insert_number.Statement.{statement}
 use Rattle.xid_list.proofs.insert.insert_number.Tie as tie
 
 abbrev invariant-loop : tie.invariant-loop
-invariant-loop out₀ n xid x₀ j₀ out x j = (j ≤ n) × (8 * n + 8 ≤ length out) × (length out ≡ length out₀) × (sets out (8 * j) (bytes_of (insert x (heldIn out (8 * j) (n - j)))) ≡ sets out₀ 0 (bytes_of (insert xid (heldIn out₀ 0 n))))
+invariant-loop out₀ n xid x₀ j₀ out x j = (j ≤ n) × (8 * n + 8 ≤ length out) × (length out ≡ length out₀) × (sets out (8 * j) (bytes_of (insert x (held_in out (8 * j) (n - j)))) ≡ sets out₀ 0 (bytes_of (insert xid (held_in out₀ 0 n))))
 
 abbrev decreases-loop : tie.decreases-loop
 decreases-loop out₀ n xid x₀ j₀ out x j = n - j
 
-pub insert-number-spec : {M : Type 1} → statement M
-insert-number-spec =
+pub insert_number_spec : {M : Type 1} → statement M
+insert_number_spec =
     tie.close
     (tie.spec
     invariant-loop

@@ -2,18 +2,18 @@ use borrow.Author.Rules.{rules}
 use Prim.Native.Nat.{◌+◌, ◌-◌, ◌*◌, ◌^◌, ◌≤◌, ◌<◌}
 use mathlib.Core.Path.{◌≡◌}
 use lib.ListN.{length}
-use Rattle.xid_list.proofs.Rings.{numbersFrom, counting}
+use Rattle.xid_list.proofs.Rings.{numbers_from, counting}
 use Rattle.xid_list.proofs.ring.count_accepted.Statement.{statement}
 use Rattle.xid_list.proofs.ring.count_accepted.Tie as tie
 
 abbrev invariant-loop : tie.invariant-loop
-invariant-loop reader image start ring n₀ i₀ n i = (i ≤ ring) × (start + ring * reader.block_size < 2 ^ 64) × (n ≡ length (numbersFrom reader image start ring i))
+invariant-loop reader image start ring n₀ i₀ n i = (i ≤ ring) × (start + ring * reader.block_size < 2 ^ 64) × (n ≡ length (numbers_from reader image start ring i))
 
 abbrev decreases-loop : tie.decreases-loop
 decreases-loop reader image start ring n₀ i₀ n i = i
 
-pub count-accepted-spec : {M : Type 1} → statement M
-count-accepted-spec =
+pub count_accepted_spec : {M : Type 1} → statement M
+count_accepted_spec =
     tie.close
     (tie.spec
     invariant-loop
