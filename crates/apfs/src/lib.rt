@@ -1,5 +1,7 @@
 // The calls that a host makes: each on the image, numbers and one output buffer. Each first finds the part of the image that a
 // container is in, and reads that as its whole image: document 02, request 01.
+#![tactic(auto)]
+
 mod bookmarks;
 mod desk;
 mod earlier;

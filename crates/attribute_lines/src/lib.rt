@@ -1,4 +1,6 @@
 // The line of an attribute with its contents, by place.
+#![tactic(auto)]
+
 ghost use Rattle.std.specs.Prelude.{◌≡◌, []};
 ghost use Rattle.records.specs.Attribute.{attribute_bytes};
 ghost use Rattle.lines.specs.Shown.{attribute_shown};

@@ -1,4 +1,6 @@
 // The records of an id and a kind in a B-tree, in order (btree.rs, `scan`).
+#![tactic(auto)]
+
 mod entries;
 mod leaf;
 mod seek;

@@ -1,4 +1,6 @@
 // Bounds-checked little-endian fields and parts of a slice of bytes (bytes.rs).
+#![tactic(auto)]
+
 ghost use Rattle.std.specs.Prelude.{◌≡◌, ◌+◌, ◌≤◌, ◌<◌, length};
 ghost use Rattle.std.proofs.lemmas.List.Edits.{sets};
 ghost use Rattle.error.specs.declared.Refusal.TheVariants.{Corrupt};

@@ -1,4 +1,6 @@
 // The checkpoints of a container: which superblock of the descriptor area is taken (nx.rs).
+#![tactic(auto)]
+
 mod accepted;
 mod by_number;
 mod checkpoint;

@@ -1,4 +1,6 @@
 // The line of a container that is opened.
+#![tactic(auto)]
+
 ghost use Rattle.std.specs.Prelude.{◌≡◌, [], ◌∷◌};
 ghost use Rattle.text.specs.Output.{output_of, puts};
 ghost use Rattle.text.specs.Words.{digits};

@@ -1,4 +1,6 @@
 // Whether the whole of a file can be read, as the listing reads it: no extent may start before the end of the one before it.
+#![tactic(auto)]
+
 ghost use Rattle.std.specs.Prelude.{◌≡◌};
 ghost use Rattle.extents.specs.Ruling.{ruled};
 ghost use Rattle.streams.specs.Streams.{settled_told};

@@ -1,4 +1,6 @@
 // A reflected CRC of 32 bits, by a table of words; the polynomial is the table's.
+#![tactic(auto)]
+
 ghost use Rattle.std.specs.Prelude.{◌≡◌, ◌≤◌, length};
 ghost use Rattle.crc.specs.Tabled.{step_by, crc_by};
 

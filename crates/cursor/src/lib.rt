@@ -1,4 +1,6 @@
 // The records of a scan one after the other, leaf by leaf: what is left of the levels above a leaf is held by the blocks of its path.
+#![tactic(auto)]
+
 mod path;
 mod steps;
 mod walk;

@@ -1,4 +1,6 @@
 // The line of an element of a volume: an inode by its path, an entry and an extent by their place.
+#![tactic(auto)]
+
 mod by_path;
 mod entry;
 mod extent;

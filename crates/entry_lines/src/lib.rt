@@ -1,4 +1,6 @@
 // The lines of a directory's entries from a place on, as many as fit.
+#![tactic(auto)]
+
 ghost use Rattle.std.specs.Prelude.{◌≡◌, length, drop, ◌≤◌};
 ghost use Rattle.text.specs.Output.{at, puts};
 ghost use Rattle.cursor.specs.Left.{run_at};

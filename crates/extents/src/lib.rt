@@ -1,4 +1,6 @@
 // A file's extents: which of them may be read (fs.rs, `extents` and `read_extents_at`).
+#![tactic(auto)]
+
 mod deciding;
 mod verdict;
 

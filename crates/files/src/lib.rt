@@ -1,4 +1,6 @@
 // File reads over extents (fs.rs, `read_at`).
+#![tactic(auto)]
+
 mod copy;
 mod read;
 

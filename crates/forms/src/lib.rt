@@ -1,4 +1,6 @@
 // A node's form up to its entries: its line, its attributes and its data.
+#![tactic(auto)]
+
 mod attributes;
 mod contents_line;
 mod head;

@@ -1,4 +1,6 @@
 // What block 0 says: the block size, the block count and where the descriptor area lies.
+#![tactic(auto)]
+
 ghost use Rattle.std.specs.Prelude.{◌≡◌};
 ghost use Rattle.byte_fields.specs.Number.{told};
 ghost use Rattle.geometry.specs.BlockZero.{has_magic, size_told, size_ok, size_in, measured_told, ring_of, geometry_in, size_at, geometry_at, area_at};

@@ -1,4 +1,6 @@
 // The part of an image that a container is in, by a GUID partition table (UEFI specification, 5.3).
+#![tactic(auto)]
+
 mod crc32;
 mod entries;
 mod header;

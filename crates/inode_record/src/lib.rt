@@ -1,4 +1,6 @@
 // An inode's record: its fields and its extended fields (fs.rs, `Inode::parse`, `xfields`).
+#![tactic(auto)]
+
 mod fields;
 mod inode;
 

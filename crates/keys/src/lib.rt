@@ -1,4 +1,6 @@
 // Names compared by their keys, and the letters that a key is made of: canonical decomposition, order and lower case, for the ranges of request 07.
+#![tactic(auto)]
+
 mod characters;
 mod compare;
 mod letters;

@@ -1,4 +1,6 @@
 // The label of a volume (nx.rs, the `name` of `ApfsSuperblock`).
+#![tactic(auto)]
+
 ghost use Rattle.std.specs.Prelude.{◌≡◌};
 ghost use Rattle.label.specs.Label.{label_of, label_reading};
 

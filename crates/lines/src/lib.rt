@@ -1,4 +1,6 @@
 // The lines of a listing, each written into a buffer that the caller lends (see text).
+#![tactic(auto)]
+
 mod attribute;
 mod inode;
 mod line;

@@ -1,4 +1,6 @@
 // Attributes by name, their bytes, and the text of symbolic links (fs.rs, `xattr`, `read_xattr`, `read_link`).
+#![tactic(auto)]
+
 mod link;
 mod marks;
 mod named;

@@ -1,4 +1,6 @@
 // The lister: an image of at most 65,536 bytes on standard input, the listing of its volume 0 on standard output. Document 01, "The listing (added)".
+#![tactic(auto)]
+
 use byte_fields::{Sliced, Span, part};
 use checkpoints::Choice;
 use error::{Refusal, number_of};

@@ -1,4 +1,6 @@
 // The lists of a volume, an element a call, and its inodes (fs.rs).
+#![tactic(auto)]
+
 mod attributes;
 mod entries;
 mod extents;

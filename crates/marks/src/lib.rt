@@ -1,4 +1,6 @@
 // Bookmarks: a record's place in 24 bytes, and the record that one handed in leads to. Document 02, request 10.
+#![tactic(auto)]
+
 mod handed;
 mod mark;
 mod on_image;

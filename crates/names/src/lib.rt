@@ -1,4 +1,6 @@
 // Names as the parts of a record that hold them, and how many parts of each its reading replaces: document 02, request 02.
+#![tactic(auto)]
+
 ghost use Rattle.std.specs.Prelude.{◌≡◌};
 ghost use Rattle.names.specs.Name.{name_from, name_of, name_bytes};
 ghost use Rattle.names.specs.Inner.{Passed};

@@ -1,4 +1,6 @@
 // A node's form holds entry forms, and an entry's form holds a node's: the two writers call each other, and the depth that remains falls.
+#![tactic(auto)]
+
 ghost use Rattle.std.specs.Prelude.{◌≡◌, []};
 ghost use Rattle.lines.specs.Lines.{close};
 ghost use Rattle.forms.specs.Course.{writes, entry_course, node_course};

@@ -1,4 +1,6 @@
 // Unicode's own data held against the letters, keys and hashes of names: each recorded case, and how many do not agree.
+#![tactic(auto)]
+
 mod characters;
 mod lines;
 mod record;

@@ -1,4 +1,6 @@
 // The container (`nx_superblock_t`): its opening and its volume slots (nx.rs).
+#![tactic(auto)]
+
 mod container;
 mod slots;
 mod volume;

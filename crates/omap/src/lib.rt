@@ -1,4 +1,6 @@
 // Object maps (`omap_phys_t`): a map is loaded from its object; its mappings are looked up by `lookup::look_up` (omap.rs).
+#![tactic(auto)]
+
 ghost use Rattle.std.specs.Prelude.{◌≡◌};
 ghost use Rattle.byte_fields.specs.Number.{told};
 ghost use Rattle.node.specs.Node.{info_told};

@@ -1,4 +1,6 @@
 // The line of the part of an image that a container is in.
+#![tactic(auto)]
+
 ghost use Rattle.std.specs.Prelude.{◌≡◌, []};
 ghost use Rattle.text.specs.Output.{output_of, puts};
 ghost use Rattle.calls.specs.Filled.{filled_at, filled, filled_by};

@@ -1,4 +1,6 @@
 // The bytes of a file and of an attribute, and the text of a symbolic link, into a buffer that the caller lends.
+#![tactic(auto)]
+
 mod attribute;
 mod file;
 mod link;

@@ -1,4 +1,6 @@
 // The records of a volume's tree beside inodes: directory entries, attributes and file extents (fs.rs).
+#![tactic(auto)]
+
 mod attribute;
 mod directory;
 mod extent;

@@ -1,4 +1,6 @@
 // The line that says how many parts of a name were replaced: document 02, request 02.
+#![tactic(auto)]
+
 mod kinds;
 mod line;
 mod on_volume;

@@ -1,4 +1,6 @@
 // A call's result: how many bytes were written, or minus the refusal's number.
+#![tactic(auto)]
+
 ghost use Rattle.std.specs.Prelude.{◌≡◌};
 ghost use Rattle.error.specs.Answer.{number_of};
 ghost use Rattle.results.specs.Call.{minus, result_at, Within};

@@ -1,4 +1,6 @@
 // The bytes of an attribute's data stream (fs.rs, `copy_dstream`): what is refused first, then the bytes, an extent after the other.
+#![tactic(auto)]
+
 mod pour;
 mod settle;
 mod step;

@@ -1,4 +1,6 @@
 // What a node's form and all below it count for, and how deep they go, with no text: document 02, request 09.
+#![tactic(auto)]
+
 mod counts;
 mod own;
 mod tree;

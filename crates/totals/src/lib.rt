@@ -1,4 +1,6 @@
 // What the lines of a listing count for: document 02, request 08.
+#![tactic(auto)]
+
 ghost use Rattle.std.specs.Prelude.{◌≡◌, length, drop, ◌+◌};
 ghost use Rattle.totals.specs.Totals.{begins, line_length, line_totals, totals_of};
 ghost use Rattle.totals.specs.Inner.{has_lf};

@@ -1,4 +1,6 @@
 // The Unicode data of the characters that keys cover, and the theory of keys (specs, proofs).
+#![tactic(auto)]
+
 ghost use Rattle.std.specs.Prelude.{◌≡◌};
 ghost use Rattle.unicode_forms.specs.Data.{class_of};
 

@@ -1,4 +1,6 @@
 // An opened volume (fs.rs, `Volume::open`).
+#![tactic(auto)]
+
 mod rule;
 
 ghost use Rattle.std.specs.Prelude.{◌≡◌};

@@ -1,5 +1,7 @@
 // One wrong word: which single words of an object that fails its checksum could be wrong, and what would stand in their
 // place. Document 02, request 13.
+#![tactic(auto)]
+
 ghost use Rattle.std.specs.Prelude.{◌≡◌, false, ◌+◌, ◌-◌, ◌*◌, ◌/◌, ◌%◌, ◌^◌, ◌≤◌, ◌<◌, eqb, length};
 ghost use Rattle.byte_fields.specs.Number.{little};
 ghost use Rattle.checksum.specs.Fletcher.{M, valid};

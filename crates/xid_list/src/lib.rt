@@ -1,4 +1,6 @@
 // The transaction numbers of the accepted checkpoints, into a buffer that the caller lends: document 02, request 04.
+#![tactic(auto)]
+
 mod insert;
 mod ring;
 

@@ -10,10 +10,10 @@ use Rattle.byte_fields.proofs.Laws.{zero_from, zero_start, zero_here, zero_not_h
 use Rattle.byte_fields.proofs.cstr.Statement.{statement}
 use Rattle.byte_fields.proofs.cstr.Tie as tie
 
-abbrev invariant-loop : tie.invariant-loop
+abbrev invariant-loop : tie.invariant-loop-n
 invariant-loop b n₀ n = (n ≤ length b) × (up_to_zero b ≡ zero_from b n)
 
-abbrev decreases-loop : tie.decreases-loop
+abbrev decreases-loop : tie.decreases-loop-n
 decreases-loop b n₀ n = length b - n
 
 ruleset all = (rules, zero_start, zero_here, zero_not_here, zero_nowhere)

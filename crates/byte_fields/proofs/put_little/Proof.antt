@@ -8,10 +8,10 @@ use Rattle.byte_fields.proofs.Little.{putting}
 use Rattle.byte_fields.proofs.put_little.Statement.{statement}
 use Rattle.byte_fields.proofs.put_little.Tie as tie
 
-abbrev invariant-loop : tie.invariant-loop
+abbrev invariant-loop : tie.invariant-loop-i
 invariant-loop out₀ at n x rest₀ i₀ out rest i = (at + n ≤ length out) × (length out ≡ length out₀) × (sets out (at + i) (little_bytes (n - i) rest) ≡ sets out₀ at (little_bytes n x))
 
-abbrev decreases-loop : tie.decreases-loop
+abbrev decreases-loop : tie.decreases-loop-i
 decreases-loop out₀ at n x rest₀ i₀ out rest i = n - i
 
 pub put_little_spec : {M : Type 1} → statement M
