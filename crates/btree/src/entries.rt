@@ -13,7 +13,7 @@ use node::{Entered, Info, KeyValue, Node, Parsed, Place, Value, child_of, entry,
 use obj::Reader;
 
 // What is looked for in a node: the keys of an id and a kind.
-#[derive(Drop)]
+#[derive(Clone, Copy)]
 pub struct Keys {
     pub reader: Reader,
     pub info: Info,
@@ -23,7 +23,7 @@ pub struct Keys {
 }
 
 // The records of an id and a kind in the tree below a root.
-#[derive(Drop)]
+#[derive(Clone, Copy)]
 pub struct Search {
     pub keys: Keys,
     pub root: Node,
@@ -31,7 +31,7 @@ pub struct Search {
 }
 
 // A record of a scan, or how the scan ended.
-#[derive(Drop)]
+#[derive(Clone, Copy)]
 pub enum Found {
     At(Place),
     End,
@@ -39,28 +39,28 @@ pub enum Found {
 }
 
 // What was found, and the nodes gone through.
-#[derive(Drop)]
+#[derive(Clone, Copy)]
 pub struct Scanned {
     pub found: Found,
     pub nodes: u64,
 }
 
 // How a key stands to what is searched.
-#[derive(Drop)]
+#[derive(Clone, Copy)]
 pub enum Order {
     Below,
     Inside,
     Above,
 }
 
-#[derive(Drop)]
+#[derive(Clone, Copy)]
 pub enum Ordered {
     Got(Order),
     No(Refusal),
 }
 
 // What an entry of a leaf gives.
-#[derive(Drop)]
+#[derive(Clone, Copy)]
 pub enum Item {
     Pass,
     Stop,
@@ -69,7 +69,7 @@ pub enum Item {
 }
 
 // A child that was read, and the nodes gone through.
-#[derive(Drop)]
+#[derive(Clone, Copy)]
 pub struct Entering {
     pub node: Parsed,
     pub nodes: u64,

@@ -7,7 +7,7 @@ use error::Refusal;
 use node::{Info, Node, Place};
 
 // A record and the entry after it; or the leaf is passed without one, or the scan ends in it.
-#[derive(Drop)]
+#[derive(Clone, Copy)]
 pub enum InLeaf {
     At(Place, u32),
     Passed,

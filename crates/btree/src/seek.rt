@@ -7,7 +7,7 @@ use error::Refusal;
 use node::{Info, Node, Parsed};
 
 // The entry that is gone into, where all of them may be passed, or the scan ends.
-#[derive(Drop)]
+#[derive(Clone, Copy)]
 pub enum Seek {
     Over,
     Stop,
@@ -15,7 +15,7 @@ pub enum Seek {
     No(Refusal),
 }
 
-#[derive(Drop)]
+#[derive(Clone, Copy)]
 pub enum Turn {
     Over,
     Stop,
@@ -24,7 +24,7 @@ pub enum Turn {
 }
 
 // What to do next, the entry at which the node then goes on, and the nodes gone through.
-#[derive(Drop)]
+#[derive(Clone, Copy)]
 pub struct Turned {
     pub turn: Turn,
     pub next: u32,

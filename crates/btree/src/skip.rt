@@ -13,7 +13,7 @@ use error::Refusal;
 use node::{Node, Place};
 
 // Left: the part is passed, with as many still to skip.
-#[derive(Drop)]
+#[derive(Clone, Copy)]
 pub enum Pass {
     At(Place),
     Left(u64),
@@ -21,7 +21,7 @@ pub enum Pass {
     No(Refusal),
 }
 
-#[derive(Drop)]
+#[derive(Clone, Copy)]
 pub struct Passed {
     pub pass: Pass,
     pub nodes: u64,

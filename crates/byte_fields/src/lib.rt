@@ -9,20 +9,20 @@ ghost use Rattle.byte_fields.specs.Part.{part_of, span_at, sliced, up_to_zero};
 
 use error::Refusal;
 
-#[derive(Drop)]
+#[derive(Clone, Copy)]
 pub enum Number {
     Got(u64),
     No(Refusal),
 }
 
 // Where a part of a slice lies.
-#[derive(Drop)]
+#[derive(Clone, Copy)]
 pub struct Span {
     pub start: usize,
     pub len: usize,
 }
 
-#[derive(Drop)]
+#[derive(Clone, Copy)]
 pub enum Sliced {
     Got(Span),
     No(Refusal),

@@ -15,7 +15,7 @@ use geometry::{Geometry, area_at};
 use obj::Reader;
 
 // Which checkpoint a container is opened at.
-#[derive(Drop)]
+#[derive(Clone, Copy)]
 pub enum Choice {
     Latest,
     Number(u64),

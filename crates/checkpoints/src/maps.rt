@@ -8,7 +8,7 @@ use byte_fields::{Number, Sliced, part, u32_at};
 use obj::{Parsed, Reader};
 
 // What a checkpoint map's block is: the last one, one before others, or none.
-#[derive(Drop)]
+#[derive(Clone, Copy)]
 pub enum MapTest {
     Last,
     More,

@@ -6,7 +6,7 @@ use byte_fields::{Number, Span, u32_at, u64_at};
 use error::Refusal;
 
 // Where a checkpoint says that its own descriptor blocks lie. The ring that they lie on has the length that block 0 gives, whatever `blocks` is.
-#[derive(Drop)]
+#[derive(Clone, Copy)]
 pub struct Descriptors {
     pub blocks: u32,
     pub base: u64,
@@ -14,13 +14,13 @@ pub struct Descriptors {
     pub len: u32,
 }
 
-#[derive(Drop)]
+#[derive(Clone, Copy)]
 pub enum Described {
     Got(Descriptors),
     Nothing,
 }
 
-#[derive(Drop)]
+#[derive(Clone, Copy)]
 pub struct Superblock {
     pub place: Span,
     pub xid: u64,
@@ -31,13 +31,13 @@ pub struct Superblock {
 }
 
 // What a block is asked for: a superblock, or nothing.
-#[derive(Drop)]
+#[derive(Clone, Copy)]
 pub enum Found {
     Got(Superblock),
     Nothing,
 }
 
-#[derive(Drop)]
+#[derive(Clone, Copy)]
 pub enum Superblocked {
     Got(Superblock),
     No(Refusal),

@@ -7,13 +7,13 @@ ghost use Rattle.cursor.specs.Inner.{none_left, mark_of, with_mark};
 use btree::Search;
 use node::{Parsed, parse};
 
-#[derive(Drop)]
+#[derive(Clone, Copy)]
 pub struct Mark {
     pub block: u64,
     pub next: u32,
 }
 
-#[derive(Drop)]
+#[derive(Clone, Copy)]
 pub struct Path {
     pub marks: [Mark; 33],
 }

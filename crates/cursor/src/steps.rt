@@ -12,7 +12,7 @@ use error::Refusal;
 use node::{Node, Parsed};
 
 // A leaf that the scan has come to, or how the scan ended.
-#[derive(Drop)]
+#[derive(Clone, Copy)]
 pub enum Reached {
     Leaf(Node),
     End,
@@ -20,7 +20,7 @@ pub enum Reached {
 }
 
 // A leaf, its level and the entry of its first record, what is left above it, and the nodes gone through.
-#[derive(Drop)]
+#[derive(Clone, Copy)]
 pub struct Step {
     pub reached: Reached,
     pub from: u32,

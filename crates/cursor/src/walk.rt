@@ -13,7 +13,7 @@ use error::Refusal;
 use node::Node;
 
 // Passed: no leaf of the part has a record.
-#[derive(Drop)]
+#[derive(Clone, Copy)]
 pub enum InPart {
     At(Node),
     Passed,
@@ -22,7 +22,7 @@ pub enum InPart {
 }
 
 // A leaf, its level and the entry of its first record, what is left above it, and the nodes gone through.
-#[derive(Drop)]
+#[derive(Clone, Copy)]
 pub struct PartStep {
     pub found: InPart,
     pub from: u32,

@@ -14,7 +14,7 @@ use btree::{InLeaf, Search, Turn, next_child, next_in, stays};
 use node::{Node, Parsed};
 
 // A node, the entry at which it is begun, its level, what is left above it, and the nodes gone through.
-#[derive(Drop)]
+#[derive(Clone, Copy)]
 pub struct Way {
     pub node: Node,
     pub from: u32,

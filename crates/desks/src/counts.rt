@@ -5,13 +5,13 @@ ghost use Rattle.desks.specs.Desks.{added};
 use calls::plus;
 
 #[repr(C)]
-#[derive(Drop)]
+#[derive(Clone, Copy)]
 pub struct DeskCounts {
     pub counts: [u64; 8],
 }
 
 // What a call answers, and the nodes that it went through.
-#[derive(Drop)]
+#[derive(Clone, Copy)]
 pub struct Called {
     pub result: i64,
     pub nodes: u64,

@@ -16,7 +16,7 @@ use obj::Reader;
 use records::Extent;
 
 // What is known of the extents so far: the last start, whether the starts ascend, and the verdict of those since the offset.
-#[derive(Drop)]
+#[derive(Clone, Copy)]
 pub struct Judging {
     pub last: u64,
     pub rises: bool,
@@ -24,7 +24,7 @@ pub struct Judging {
 }
 
 // The verdict of all, the step and the entry of the last extent at or before the offset (or of the first), and the nodes gone through.
-#[derive(Drop)]
+#[derive(Clone, Copy)]
 pub struct Judged {
     pub ruling: Ruling,
     pub kept: Step,

@@ -8,7 +8,7 @@ use error::Refusal;
 use obj::Reader;
 use records::Extent;
 
-#[derive(Drop)]
+#[derive(Clone, Copy)]
 pub enum Ruling {
     Fine,
     No(Refusal),

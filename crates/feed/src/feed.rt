@@ -8,7 +8,7 @@ use crate::window::{Window, count, empty, with, without};
 use text::Position;
 
 // `ended`: a zero byte came, and nothing after it counts. `marks`: no text is written, but a zero byte for each part of it that is replaced.
-#[derive(Drop)]
+#[derive(Clone, Copy)]
 pub struct Feed {
     pub marks: bool,
     pub window: Window,

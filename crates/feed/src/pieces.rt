@@ -9,7 +9,7 @@ use text::{Position, put_all, put_byte};
 use utf8::Piece;
 
 // The position after a piece, and how many bytes the piece took.
-#[derive(Drop)]
+#[derive(Clone, Copy)]
 pub struct Written {
     pub position: Position,
     pub taken: usize,

@@ -2,7 +2,7 @@
 ghost use Rattle.std.specs.Prelude.{◌≡◌, [], ◌∷◌, ◌++◌, ◌-◌, ◌≤◌, ◌<◌, min, length, drop};
 ghost use Rattle.feed.specs.Fed.{waiting};
 
-#[derive(Drop)]
+#[derive(Clone, Copy)]
 pub struct Window {
     pub bytes: [u8; 4],
     pub len: usize,

@@ -14,7 +14,7 @@ use lists::search;
 use volume::Volume;
 
 // How many bytes were read, and the nodes gone through.
-#[derive(Drop)]
+#[derive(Clone, Copy)]
 pub struct FileRead {
     pub count: Number,
     pub nodes: u64,

@@ -10,21 +10,21 @@ use byte_fields::{Number, Sliced, part, span_at, u32_at, u64_at};
 use error::Refusal;
 use obj::Reader;
 
-#[derive(Drop)]
+#[derive(Clone, Copy)]
 pub struct Geometry {
     pub reader: Reader,
     pub ring: u32,
     pub base: u64,
 }
 
-#[derive(Drop)]
+#[derive(Clone, Copy)]
 pub enum Measured {
     Got(Geometry),
     No(Refusal),
 }
 
 // A block size.
-#[derive(Drop)]
+#[derive(Clone, Copy)]
 pub enum Sized {
     Got(u32),
     No(Refusal),

@@ -7,14 +7,14 @@ use byte_fields::{Span, eight, four, part};
 use error::Refusal;
 
 // Entries of `size` bytes each, from byte `start` on.
-#[derive(Drop)]
+#[derive(Clone, Copy)]
 pub struct Table {
     pub start: usize,
     pub count: u32,
     pub size: u32,
 }
 
-#[derive(Drop)]
+#[derive(Clone, Copy)]
 pub enum TableRead {
     Got(Table),
     No(Refusal),

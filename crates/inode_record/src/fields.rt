@@ -6,32 +6,32 @@ use byte_fields::{Number, Sliced, Span, part, slice_at, u16_at, u32_at, u64_at};
 use error::Refusal;
 use names::{Name, name_of};
 
-#[derive(Drop)]
+#[derive(Clone, Copy)]
 pub struct Dstream {
     pub size: u64,
     pub alloced_size: u64,
 }
 
 // The name is a part of the record's value.
-#[derive(Drop)]
+#[derive(Clone, Copy)]
 pub enum NameField {
     Absent,
     At(Name),
 }
 
-#[derive(Drop)]
+#[derive(Clone, Copy)]
 pub enum StreamField {
     Absent,
     At(Dstream),
 }
 
-#[derive(Drop)]
+#[derive(Clone, Copy)]
 pub struct Fields {
     pub name: NameField,
     pub stream: StreamField,
 }
 
-#[derive(Drop)]
+#[derive(Clone, Copy)]
 pub enum FieldsRead {
     Got(Fields),
     No(Refusal),

@@ -9,13 +9,13 @@ use names::{Name, name_bytes};
 use node::{Place, value_of};
 use obj::Reader;
 
-#[derive(Drop)]
+#[derive(Clone, Copy)]
 pub struct Ids {
     pub parent: u64,
     pub private_id: u64,
 }
 
-#[derive(Drop)]
+#[derive(Clone, Copy)]
 pub struct Times {
     pub create: u64,
     pub modify: u64,
@@ -23,7 +23,7 @@ pub struct Times {
     pub access: u64,
 }
 
-#[derive(Drop)]
+#[derive(Clone, Copy)]
 pub struct Owner {
     pub internal_flags: u64,
     pub links: i32,
@@ -33,7 +33,7 @@ pub struct Owner {
     pub mode: u16,
 }
 
-#[derive(Drop)]
+#[derive(Clone, Copy)]
 pub struct Inode {
     pub place: Place,
     pub id: u64,
@@ -43,25 +43,25 @@ pub struct Inode {
     pub fields: Fields,
 }
 
-#[derive(Drop)]
+#[derive(Clone, Copy)]
 pub enum IdsRead {
     Got(Ids),
     No(Refusal),
 }
 
-#[derive(Drop)]
+#[derive(Clone, Copy)]
 pub enum TimesRead {
     Got(Times),
     No(Refusal),
 }
 
-#[derive(Drop)]
+#[derive(Clone, Copy)]
 pub enum OwnerRead {
     Got(Owner),
     No(Refusal),
 }
 
-#[derive(Drop)]
+#[derive(Clone, Copy)]
 pub enum InodeRead {
     Got(Inode),
     No(Refusal),

@@ -1,9 +1,9 @@
 -- An ASCII character of a name: it is covered, and its letter is itself, in lower case where case does not count.
-use Prim.Native.Nat.{ℕ, zero, suc, ◌+◌, ◌≤◌, ◌<◌}
+use Prim.Native.Nat.{zero-le, ℕ, zero, suc, ◌+◌, ◌≤◌, ◌<◌}
 use mathlib.Core.Path.{◌≡◌, refl, sym, ap, ◌∙◌}
 use mathlib.Core.Bool.{Bool, true, false}
 use mathlib.Core.List.{List, [], ◌∷◌}
-use borrow.Author.Rules.{zero≤}
+
 use lib.ListN.{length, get_or, drop}
 use lib.Seq.{drop-cons}
 use native.Mathlib.Omega.{arith}
@@ -48,7 +48,7 @@ first_ascii caseless b at x h k e = rw (e, add-one, drop-cons b at 0 h) (sym (as
 
 ascii_covered : (x : ℕ) → x ≤ 127 → covered x ≡ true
 unfolding any_in
-ascii_covered x h = sym (inside x 0 0x017F _ _ _ zero≤ (omega arith) refl)
+ascii_covered x h = sym (inside x 0 0x017F _ _ _ zero-le (omega arith) refl)
 
 -- a name of them is covered
 all_ascii : (b : List ℕ) → ascii b ≡ true → covered_text b ≡ true

@@ -1,12 +1,12 @@
 -- The letters of a character: by the tables, by the arithmetic of Hangul, or the character itself.
-use Prim.Native.Nat.{ℕ, zero, suc, ◌+◌, ◌-◌, ◌/◌, ◌%◌, ◌≤◌, ◌<◌}
+use Prim.Native.Nat.{zero-le, ℕ, zero, suc, ◌+◌, ◌-◌, ◌/◌, ◌%◌, ◌≤◌, ◌<◌}
 use mathlib.Core.Path.{◌≡◌, refl, sym, ap, ◌∙◌}
 use mathlib.Core.Bool.{Bool, true, false, not, ◌&&◌}
 use mathlib.Core.List.{List, [], ◌∷◌, append-nil}
 use lib.Dec.{T, leb, leb→le}
 use lib.ListN.{length, get_or, length-append}
 use lib.Ieee.Fits.{and_l, and_r}
-use borrow.Author.Rules.{zero≤}
+
 use borrow.Author.Tests.{not-true, not-false}
 use native.Mathlib.Omega.{arith}
 use native.Mathlib.Nat.{add-zero, zero-add, add-suc, suc-add, le_of_suc-le-suc, not-suc-le-zero}
@@ -97,7 +97,7 @@ all_plain = tt
 pub plain_small : (c : ℕ) → c < 0xC0 → (caseless : Bool) → small_of caseless c ∷ [] ≡ letters_of caseless c
 unfolding plain
 plain_small c h =
-    let t = both (same_bytes (letters_of false c) (small_of false c ∷ [])) (same_bytes (letters_of true c) (small_of true c ∷ [])) (of_onward plain 0xC0 0 c all_plain zero≤ h) in
+    let t = both (same_bytes (letters_of false c) (small_of false c ∷ [])) (same_bytes (letters_of true c) (small_of true c ∷ [])) (of_onward plain 0xC0 0 c all_plain zero-le h) in
     of (sym (same_equal _ _ (so _ t.0))) (sym (same_equal _ _ (so _ t.1)))
   where
     of : small_of false c ∷ [] ≡ letters_of false c → small_of true c ∷ [] ≡ letters_of true c → (caseless : Bool) → small_of caseless c ∷ [] ≡ letters_of caseless c

@@ -6,7 +6,7 @@ ghost use Rattle.keys.specs.Told.{character_of};
 use utf8::{Piece, next};
 
 // A character, U+FFFD for an ill_formed part, and how many bytes it takes.
-#[derive(Drop)]
+#[derive(Clone, Copy)]
 pub enum Character {
     End,
     At(u32, usize),

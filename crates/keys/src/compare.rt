@@ -52,7 +52,7 @@ fn same_from(a: &[u8], b: &[u8], caseless: bool, i: usize, j: usize) -> bool
 }
 
 // Where both names go on behind letters that they share; that their keys differ; nothing known.
-#[derive(Drop)]
+#[derive(Clone, Copy)]
 pub enum Passing {
     To(usize, usize),
     Apart,

@@ -61,7 +61,7 @@ const FOLDED: [u32; 192] = [
     0x03080079, 0x0301007A, 0x0301007A, 0x0307007A, 0x0307007A, 0x030C007A, 0x030C007A, 0x0000017F,
 ];
 
-#[derive(Drop)]
+#[derive(Clone, Copy)]
 pub enum Expansion {
     One(u32),
     Two(u32, u32),

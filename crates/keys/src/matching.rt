@@ -9,7 +9,7 @@ use crate::letters::small_letter;
 use crate::ranges::each_covered;
 use utf8::is_ascii;
 
-#[derive(Drop)]
+#[derive(Clone, Copy)]
 pub enum Verdict {
     Same,
     Other,

@@ -8,7 +8,7 @@ use crate::letters::{Expansion, letters_of, small_letter};
 use unicode_forms::class_of;
 
 // Letters of a character that are still to come.
-#[derive(Drop)]
+#[derive(Clone, Copy)]
 pub enum Pending {
     Nothing,
     One(u32),
@@ -16,13 +16,13 @@ pub enum Pending {
 }
 
 // Where the next character begins, and what is still to come before it.
-#[derive(Drop)]
+#[derive(Clone, Copy)]
 pub struct Cursor {
     pub at: usize,
     pub pending: Pending,
 }
 
-#[derive(Drop)]
+#[derive(Clone, Copy)]
 pub enum Step {
     End,
     Letter(u32, Cursor),

@@ -1,12 +1,12 @@
 -- How many parts of a link's text are replaced, as they are counted.
-use Prim.Native.Nat.{ℕ, ◌+◌, ◌^◌, ◌≤◌, ◌<◌}
+use Prim.Native.Nat.{zero-le, ℕ, ◌+◌, ◌^◌, ◌≤◌, ◌<◌}
 use mathlib.Core.Path.{◌≡◌, refl, sym, ap, ◌∙◌}
 use mathlib.Core.Bool.{true}
 use mathlib.Core.List.{List, [], ◌∷◌}
 use mathlib.Core.Option.{Option, none, some}
 use native.Mathlib.Omega.{arith}
 use native.Mathlib.Nat.{zero-add, sub-zero}
-use borrow.Author.Rules.{rules, zero≤}
+use borrow.Author.Rules.{rules}
 use lib.ListN.{length, replicate, length-replicate}
 use lib.Seq.{sets}
 use Rattle.error.specs.Answer.{Answer, got, no}
@@ -53,8 +53,8 @@ use Rattle.links.specs.Inner.{counted_in}
 
 zero_most : (b : List ℕ) → length (up_to_zero b) ≤ length b
 unfolding up_to_zero
-zero_most [] = zero≤
-zero_most (x ∷ b) = eq_cases (λ (r : List ℕ). length r ≤ length (x ∷ b)) (λ e. zero≤) (λ e. omega (arith, zero_most b))
+zero_most [] = zero-le
+zero_most (x ∷ b) = eq_cases (λ (r : List ℕ). length r ≤ length (x ∷ b)) (λ e. zero-le) (λ e. omega (arith, zero_most b))
 
 at_told : (p : Position) (b c : List ℕ) (n : ℕ) → output_of p c ≡ at b n → positioned p ≡ got n
 at_told (At m) b c n e = let q : m ≡ n = cc in ap got q
@@ -75,7 +75,7 @@ unfolding stream_of stream
 stream_long b v object size s bs = of (extents_of b v object s).nodes (extents_of b v object s).answer
   where
     of : (n : ℕ) (a : Answer (List Extent)) → (onto (after n a) λ es t. after t (stream (disk_of v.reader b) size es)).answer ≡ got bs → length bs ≡ size
-    of n (got es) e = stream_length (disk_of v.reader b) (omega arith) size 0 es bs zero≤ e ∙ sub-zero size
+    of n (got es) e = stream_length (disk_of v.reader b) (omega arith) size 0 es bs zero-le e ∙ sub-zero size
     of n (no w) e = absurd (let z : ◌≡◌ {A = ℕ} 0 1 = cc in omega arith)
 
 module _ (b : List ℕ) (v : Volume) (object size s : ℕ) (r : Settled) (p : settled_told r ≡ settled_of b v object size s) where

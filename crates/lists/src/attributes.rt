@@ -14,7 +14,7 @@ use records::Attribute;
 use volume::Volume;
 
 // Nothing: the place is past the list's end.
-#[derive(Drop)]
+#[derive(Clone, Copy)]
 pub enum AttributeAt {
     Nothing,
     At(Attribute),
@@ -22,7 +22,7 @@ pub enum AttributeAt {
 }
 
 // What stands at a place, and the nodes gone through.
-#[derive(Drop)]
+#[derive(Clone, Copy)]
 pub struct AttributeFound {
     pub attribute: AttributeAt,
     pub nodes: u64,

@@ -15,7 +15,7 @@ use records::Entry;
 use volume::Volume;
 
 // Nothing: the place is past the list's end.
-#[derive(Drop)]
+#[derive(Clone, Copy)]
 pub enum EntryAt {
     Nothing,
     At(Entry),
@@ -23,7 +23,7 @@ pub enum EntryAt {
 }
 
 // What stands at a place, and the nodes gone through.
-#[derive(Drop)]
+#[derive(Clone, Copy)]
 pub struct EntryFound {
     pub entry: EntryAt,
     pub nodes: u64,

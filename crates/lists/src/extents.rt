@@ -15,7 +15,7 @@ use records::Extent;
 use volume::Volume;
 
 // Nothing: the place is past the list's end.
-#[derive(Drop)]
+#[derive(Clone, Copy)]
 pub enum ExtentAt {
     Nothing,
     At(Extent),
@@ -23,7 +23,7 @@ pub enum ExtentAt {
 }
 
 // What stands at a place, and the nodes gone through.
-#[derive(Drop)]
+#[derive(Clone, Copy)]
 pub struct ExtentFound {
     pub extent: ExtentAt,
     pub nodes: u64,

@@ -13,7 +13,7 @@ use volume::Volume;
 pub const ROOT: u64 = 2;
 
 // An inode, and the nodes gone through.
-#[derive(Drop)]
+#[derive(Clone, Copy)]
 pub struct InodeFound {
     pub inode: InodeRead,
     pub nodes: u64,

@@ -14,7 +14,7 @@ use node::Node;
 use records::{Attribute, AttributeRead, Entry, EntryRead, Extent, ExtentRead};
 
 // Over: the list ends. Passed: the leaf has no more of it. An element comes with the entry after it.
-#[derive(Drop)]
+#[derive(Clone, Copy)]
 pub enum EntryIn {
     Over,
     Passed,
@@ -22,7 +22,7 @@ pub enum EntryIn {
     No(Refusal),
 }
 
-#[derive(Drop)]
+#[derive(Clone, Copy)]
 pub enum AttributeIn {
     Over,
     Passed,
@@ -30,7 +30,7 @@ pub enum AttributeIn {
     No(Refusal),
 }
 
-#[derive(Drop)]
+#[derive(Clone, Copy)]
 pub enum ExtentIn {
     Over,
     Passed,

@@ -18,14 +18,14 @@ use volume::Volume;
 const MOST: usize = 4294967295;
 
 // A length in bytes, and the greatest depth.
-#[derive(Drop)]
+#[derive(Clone, Copy)]
 pub enum Measured {
     Got(u64, u64),
     No(Refusal),
 }
 
 // What was measured, and the nodes gone through.
-#[derive(Drop)]
+#[derive(Clone, Copy)]
 pub struct Gauged {
     pub measured: Measured,
     pub nodes: u64,

@@ -79,7 +79,7 @@ pub fn crc32c_raw(register: u32, b: &[u8]) -> u32
 }
 
 // The register, and where it goes on.
-#[derive(Drop)]
+#[derive(Clone, Copy)]
 pub struct Fed {
     pub register: u32,
     pub cursor: Cursor,

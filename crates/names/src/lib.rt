@@ -8,7 +8,7 @@ ghost use Rattle.names.specs.Inner.{Passed};
 use byte_fields::{Span, cstr, part};
 use utf8::replaced_parts;
 
-#[derive(Drop)]
+#[derive(Clone, Copy)]
 pub struct Name {
     pub span: Span,
     pub replaced: u64,

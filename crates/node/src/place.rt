@@ -10,7 +10,7 @@ use error::Refusal;
 use obj::Reader;
 
 // A missing value has 0xFFFFFFFF in both its fields.
-#[derive(Drop)]
+#[derive(Clone, Copy)]
 pub struct Place {
     pub block: u64,
     pub key_off: u32,
@@ -19,7 +19,7 @@ pub struct Place {
     pub val_len: u32,
 }
 
-#[derive(Drop)]
+#[derive(Clone, Copy)]
 pub enum Placed {
     Got(Place),
     No(Refusal),

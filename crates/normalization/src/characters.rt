@@ -3,7 +3,7 @@ use byte_fields::{Number, u16_at};
 use keys::{Cursor, Pending, Step, next_letter};
 use name_hash::crc32c_raw;
 
-#[derive(Drop)]
+#[derive(Clone, Copy)]
 pub struct Checked {
     pub agree: bool,
     // The CRC of all letters so far.

@@ -8,7 +8,7 @@ pub const LINE: u8 = 2;
 
 pub const PAIR: u8 = 3;
 
-#[derive(Drop)]
+#[derive(Clone, Copy)]
 pub struct Record {
     pub kind: u8,
     pub first: u8,

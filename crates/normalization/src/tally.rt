@@ -1,7 +1,7 @@
 // What was gone through, and what of it does not agree.
 use crate::record::{CHARACTER, LINE, PAIR};
 
-#[derive(Drop)]
+#[derive(Clone, Copy)]
 pub struct Tally {
     characters: u64,
     lines: u64,

@@ -10,21 +10,21 @@ use lookup::Map;
 use obj::Reader;
 use omap::Loading;
 
-#[derive(Drop)]
+#[derive(Clone, Copy)]
 pub struct Container {
     pub reader: Reader,
     pub sb: Superblock,
     pub map: Map,
 }
 
-#[derive(Drop)]
+#[derive(Clone, Copy)]
 pub enum Opening {
     Got(Container),
     No(Refusal),
 }
 
 // A container, and the nodes gone through.
-#[derive(Drop)]
+#[derive(Clone, Copy)]
 pub struct Opened {
     pub container: Opening,
     pub nodes: u64,

@@ -9,7 +9,7 @@ use error::Refusal;
 use lookup::{Mapping, look_up};
 use obj::{Parsed, Reader};
 
-#[derive(Drop)]
+#[derive(Clone, Copy)]
 pub struct VolumeSuperblock {
     pub block: u64,
     pub incompat: u64,
@@ -18,14 +18,14 @@ pub struct VolumeSuperblock {
     pub fs_flags: u64,
 }
 
-#[derive(Drop)]
+#[derive(Clone, Copy)]
 pub enum VolumeRead {
     Got(VolumeSuperblock),
     No(Refusal),
 }
 
 // A volume's superblock, and the nodes gone through.
-#[derive(Drop)]
+#[derive(Clone, Copy)]
 pub struct VolumeFound {
     pub volume: VolumeRead,
     pub nodes: u64,

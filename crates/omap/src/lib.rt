@@ -13,14 +13,14 @@ use lookup::{Map, read_node};
 use node::{Info, Informed, Node, Parsed, info_of};
 use obj::Reader;
 
-#[derive(Drop)]
+#[derive(Clone, Copy)]
 pub enum Loading {
     Got(Map),
     No(Refusal),
 }
 
 // A map, and the nodes gone through.
-#[derive(Drop)]
+#[derive(Clone, Copy)]
 pub struct Loaded {
     pub map: Loading,
     pub nodes: u64,

@@ -9,27 +9,27 @@ use node::{Place, key_in, key_of, value_in, value_of};
 use obj::Reader;
 
 // Contents that lie in a data stream.
-#[derive(Drop)]
+#[derive(Clone, Copy)]
 pub struct StreamData {
     pub object: u64,
     pub size: u64,
 }
 
 // Embedded contents are a part of the record's value.
-#[derive(Drop)]
+#[derive(Clone, Copy)]
 pub enum AttributeData {
     Embedded(Span),
     Stream(StreamData),
 }
 
-#[derive(Drop)]
+#[derive(Clone, Copy)]
 pub enum DataRead {
     Got(AttributeData),
     No(Refusal),
 }
 
 // The name is a part of the record's key.
-#[derive(Drop)]
+#[derive(Clone, Copy)]
 pub struct Attribute {
     pub place: Place,
     pub name: Name,
@@ -37,7 +37,7 @@ pub struct Attribute {
     pub contents: AttributeData,
 }
 
-#[derive(Drop)]
+#[derive(Clone, Copy)]
 pub enum AttributeRead {
     Got(Attribute),
     No(Refusal),

@@ -10,7 +10,7 @@ use node::{Place, key_in, key_of};
 use obj::Reader;
 
 // The name is a part of the record's key.
-#[derive(Drop)]
+#[derive(Clone, Copy)]
 pub struct Entry {
     pub place: Place,
     pub name: Span,
@@ -19,7 +19,7 @@ pub struct Entry {
     pub kind: u16,
 }
 
-#[derive(Drop)]
+#[derive(Clone, Copy)]
 pub enum EntryRead {
     Got(Entry),
     No(Refusal),

@@ -7,14 +7,14 @@ use error::Refusal;
 use node::{Place, key_in, value_in};
 
 // `len` bytes of a file from `logical` on, stored from block `phys_block` on; block 0 means a hole.
-#[derive(Drop)]
+#[derive(Clone, Copy)]
 pub struct Extent {
     pub logical: u64,
     pub len: u64,
     pub phys_block: u64,
 }
 
-#[derive(Drop)]
+#[derive(Clone, Copy)]
 pub enum ExtentRead {
     Got(Extent),
     No(Refusal),

@@ -9,7 +9,7 @@ use byte_fields::Number;
 const HEAD: usize = 29;
 
 // A record's numbers, and where its input lies in the file.
-#[derive(Drop)]
+#[derive(Clone, Copy)]
 struct Record {
     op: u8,
     a: u64,
@@ -19,7 +19,7 @@ struct Record {
     end: usize,
 }
 
-#[derive(Drop)]
+#[derive(Clone, Copy)]
 enum Step {
     Record(Record),
     End,
@@ -27,7 +27,7 @@ enum Step {
     Broken,
 }
 
-#[derive(Drop)]
+#[derive(Clone, Copy)]
 struct Tally {
     agree: u64,
     differ: u64,

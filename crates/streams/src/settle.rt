@@ -14,7 +14,7 @@ use records::Extent;
 use volume::Volume;
 
 // A ruling, and the nodes gone through.
-#[derive(Drop)]
+#[derive(Clone, Copy)]
 pub struct Settled {
     pub ruling: Ruling,
     pub nodes: u64,

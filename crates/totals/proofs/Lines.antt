@@ -1,11 +1,11 @@
 -- A text's first line and the others; a line and what follows it count for what each of the two counts for.
-use Prim.Native.Nat.{ℕ, suc, ◌+◌, ◌≤◌}
+use Prim.Native.Nat.{zero-le, ℕ, suc, ◌+◌, ◌≤◌}
 use mathlib.Core.Path.{◌≡◌, refl, sym, ap, ◌∙◌}
 use mathlib.Core.Bool.{Bool, true, false}
 use mathlib.Core.List.{List, [], ◌∷◌, ◌++◌}
 use native.Mathlib.Omega.{arith}
 use native.Mathlib.Nat.{add_assoc}
-use borrow.Author.Rules.{zero≤}
+
 use lib.Dec.{eqb}
 use lib.ListN.{length, take, drop}
 use Rattle.error.specs.Answer.{pick, if_eq}
@@ -15,8 +15,8 @@ use Rattle.totals.specs.Totals.{longer, lines_of, line_length, no_totals, line_t
 
 pub length_le : (x : List ℕ) → line_length x ≤ length x
 unfolding line_length
-length_le [] = zero≤
-length_le (c ∷ x) = eq_cases (λ n. n ≤ suc (length x)) (λ e. zero≤) (λ e. omega (arith, length_le x))
+length_le [] = zero-le
+length_le (c ∷ x) = eq_cases (λ n. n ≤ suc (length x)) (λ e. zero-le) (λ e. omega (arith, length_le x))
 
 split : (c : ℕ) (x : List ℕ) → longer c (lines_of x) ≡ (c ∷ take (line_length x) x) ∷ lines_of (drop (suc (line_length x)) x)
     → lines_of (c ∷ x) ≡ take (line_length (c ∷ x)) (c ∷ x) ∷ lines_of (drop (suc (line_length (c ∷ x))) (c ∷ x))

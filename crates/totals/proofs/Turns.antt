@@ -1,12 +1,12 @@
 -- The turns of the loops.
-use Prim.Native.Nat.{ℕ, suc, ◌+◌, ◌-◌, ◌*◌, ◌/◌, ◌^◌, ◌≤◌, ◌<◌}
+use Prim.Native.Nat.{zero-le, ℕ, suc, ◌+◌, ◌-◌, ◌*◌, ◌/◌, ◌^◌, ◌≤◌, ◌<◌}
 use mathlib.Core.Path.{◌≡◌, refl, sym, ap, subst, ◌∙◌}
 use mathlib.Core.Bool.{Bool, true, false}
 use mathlib.Core.List.{List, [], ◌∷◌, ◌++◌}
 use native.Mathlib.Omega.{arith}
 use native.Mathlib.Nat.{add-zero, zero-add}
 use native.Mathlib.Numerals.{add-one}
-use borrow.Author.Rules.{rules, zero≤}
+use borrow.Author.Rules.{rules}
 use lib.ListN.{length, get_or, take, drop, length-take, length-drop, take-append-drop, drop_of_length-le}
 use lib.Seq.{drop-cons, drop-drop, length-take-le}
 use Rattle.error.specs.Answer.{pick}
@@ -43,7 +43,7 @@ module _ (s l : List ℕ) (i : ℕ) (whole : Bool) (p : begins (drop i s) (drop 
 
 pub begins_least : (s l : List ℕ) → begins s l ≡ true → length s ≤ length l
 unfolding begins
-begins_least [] l = λ h. zero≤
+begins_least [] l = λ h. zero-le
 begins_least (c ∷ s) [] = λ h. let z : ◌≡◌ {A = ℕ} 0 1 = cc in absurd (omega arith)
 begins_least (c ∷ s) (d ∷ l) =
     eq_cases (λ b. b ≡ true → suc (length s) ≤ suc (length l)) (λ e h. omega (arith, begins_least s l h))
@@ -148,7 +148,7 @@ pub record Few (n : ℕ) (t : Totals) : Type 0 where
   pub attrs : t.attrs ≤ n
 
 pub few_none : Few 0 no_totals
-few_none = record { nodes = zero≤; bytes = zero≤; attrs = zero≤ }
+few_none = record { nodes = zero-le; bytes = zero-le; attrs = zero-le }
 
 line_few : (l : List ℕ) → Few (suc (length l)) (line_totals l)
 unfolding line_totals

@@ -5,7 +5,7 @@ ghost use Rattle.std.specs.Prelude.{◌≡◌, length, drop, ◌+◌};
 ghost use Rattle.totals.specs.Totals.{begins, line_length, line_totals, totals_of};
 ghost use Rattle.totals.specs.Inner.{has_lf};
 
-#[derive(Drop)]
+#[derive(Clone, Copy)]
 pub struct Totals {
     pub nodes: u64,
     pub bytes: u64,

@@ -1,12 +1,12 @@
 -- The rules of the data, for every character that is covered: one test that is computed over all ranges, and what it says of each character.
-use Prim.Native.Nat.{ℕ, zero, suc, ◌+◌, ◌-◌, ◌≤◌, ◌<◌}
+use Prim.Native.Nat.{zero-le, ℕ, zero, suc, ◌+◌, ◌-◌, ◌≤◌, ◌<◌}
 use mathlib.Core.Path.{◌≡◌, refl, sym, ap, subst, ◌∙◌}
 use mathlib.Core.Bool.{Bool, true, false, ◌&&◌}
 use mathlib.Core.Logic.{◌⊎◌, inl, inr}
 use mathlib.Core.List.{List, [], ◌∷◌, append-nil}
 use lib.Dec.{T, leb, eqb, eqb→eq}
 use borrow.Author.Tests.{leb-true, leb-false, eqb-true, eqb-false}
-use borrow.Author.Rules.{zero≤}
+
 use native.Mathlib.Omega.{arith}
 use Rattle.error.specs.Answer.{if_le, if_eq}
 use Rattle.utf8.specs.Text.{Range, if_in, same_bytes}
@@ -159,7 +159,7 @@ low_or_high c = of (leb 0x180 c) refl
   where
     of : (d : Bool) → leb 0x180 c ≡ d → (T (below c)) ⊎ (0x180 ≤ c)
     of true e = inr (leb-true 0x180 c e)
-    of false e = inl (of_onward below 0x180 0 c all_below zero≤ (leb-false 0x180 c e))
+    of false e = inl (of_onward below 0x180 0 c all_below zero-le (leb-false 0x180 c e))
 
 module _ (c : ℕ) where
   pub commute : flat decompose (lower c) ≡ flat lower (decompose c)

@@ -19,13 +19,13 @@ use omap::Loading;
 pub use rule::{NameRule, hashed_keys, insensitive, name_rule};
 
 // Which volume of a container, at which checkpoint.
-#[derive(Drop)]
+#[derive(Clone, Copy)]
 pub struct Which {
     pub checkpoint: Choice,
     pub index: u64,
 }
 
-#[derive(Drop)]
+#[derive(Clone, Copy)]
 pub struct Volume {
     pub reader: Reader,
     pub sb: VolumeSuperblock,
@@ -34,14 +34,14 @@ pub struct Volume {
     pub info: Info,
 }
 
-#[derive(Drop)]
+#[derive(Clone, Copy)]
 pub enum VolumeOpening {
     Got(Volume),
     No(Refusal),
 }
 
 // A volume, and the nodes gone through.
-#[derive(Drop)]
+#[derive(Clone, Copy)]
 pub struct VolumeOpened {
     pub volume: VolumeOpening,
     pub nodes: u64,

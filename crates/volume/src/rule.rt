@@ -4,7 +4,7 @@ ghost use Rattle.volume.specs.Rule.{rule_of, insensitive, hashed_keys};
 
 use crate::Volume;
 
-#[derive(Drop)]
+#[derive(Clone, Copy)]
 pub struct NameRule {
     pub case_insensitive: bool,
     pub normalization_insensitive: bool,

@@ -18,14 +18,14 @@ use text::{Position, put_byte};
 const M: u64 = 4294967295;
 
 // By how much a word has to grow, and what both sums and the first stored half come to before it does.
-#[derive(Drop)]
+#[derive(Clone, Copy)]
 struct Gap {
     by: u64,
     rest: u64,
 }
 
 // Nothing: no word can be the wrong one.
-#[derive(Drop)]
+#[derive(Clone, Copy)]
 enum Gaps {
     Nothing,
     Of(Gap),
