@@ -6,9 +6,7 @@ use Rattle.error.proofs.Laws.{at_most_lem, above, other}
 use Rattle.byte_fields.specs.Number.{little}
 use Rattle.checksum.specs.Fletcher.{words_at, words_of, sum, running, s1, s2, checksum, valid}
 use Rattle.crc.specs.Crc.{crc}
-use Rattle.utf8.specs.Characters.{characters_in, characters}
-use Rattle.unicode_forms.specs.Keys.{flat, canonical, hashed_of, all_covered, covered_text}
-use Rattle.name_hash.specs.Hash.{utf32, name_hash, name_len_and_hash}
+use Rattle.name_hash.specs.Hash.{fold_all, utf32, name_hash, name_len_and_hash}
 use Rattle.node.specs.Node.{laid_out}
 use Rattle.geometry.specs.BlockZero.{size_ok}
 use Rattle.paths.proofs.Root.{lookup_empty, lookup_slashes}
@@ -36,7 +34,7 @@ unfolding valid
 not_of_words b n = sym (at_most_lem 32 (length b) _ _ _ (omega arith) (other _ _ _ _ _ (λ h. omega arith) refl))
 
 pub marked : MarkedLines
-unfolding if_le if_eq little words_at words_of sum running s1 s2 checksum crc characters_in characters flat canonical hashed_of all_covered covered_text utf32 name_hash name_len_and_hash laid_out size_ok ones given said
+unfolding if_le if_eq little words_at words_of sum running s1 s2 checksum crc fold_all utf32 name_hash name_len_and_hash laid_out size_ok ones given said
 marked = record {
   zero_from_8 = eight (λ (l : List ℕ). checksum (l ++ replicate 24 0) ≡ 0xFFFFFFFFFFFFFFFF) (λ a b c d e f g h. refl);
   one_at_8 = eight (λ (l : List ℕ). checksum (l ++ 1 ∷ replicate 23 0) ≡ 0x00000006FFFFFFF8) (λ a b c d e f g h. refl);

@@ -11,7 +11,7 @@ use Rattle.error.specs.declared.Refusal.{Refusal}
 use Rattle.error.specs.declared.Refusal.TheVariants.{Unsupported, NotFound, CharacterNotCovered}
 use Rattle.utf8.specs.Text.{same_bytes}
 use Rattle.volume.specs.Rule.{insensitive}
-use Rattle.unicode_forms.specs.Keys.{covered_text, same_keys}
+use Rattle.paths.specs.Names.{wide, same_keys}
 use Rattle.paths.specs.Find.{exact_match, key_match, find_entry}
 use Rattle.volume.specs.declared.rule.NameRule.{NameRule}
 use Rattle.lines.specs.Shown.{InodeShown, EntryShown, AttributeShown, Contents, packed, plain}
@@ -200,11 +200,11 @@ module _ (P : EntryShown → Type 0) where
     key_holds : (es : List EntryShown) → Every P es → Holds P (key_match r entry_label p es)
     unfolding key_match
     key_holds [] h = tt
-    key_holds (e ∷ es) h = pick_holds (covered_text e.label) _ (no CharacterNotCovered) (pick_holds (same_keys r.case_insensitive p e.label) (got e) _ h.0 (key_holds es h.1)) tt
+    key_holds (e ∷ es) h = pick_holds (wide e.label) (no CharacterNotCovered) _ tt (pick_holds (same_keys r.case_insensitive r.normalization_insensitive p e.label) (got e) _ h.0 (key_holds es h.1))
 
     find_holds : (es : List EntryShown) → Every P es → Holds P (find_entry r entry_label p es)
     unfolding find_entry
-    find_holds es h = exact_holds p es _ h (pick_holds (insensitive r) _ (no NotFound) (pick_holds (covered_text p) _ (no CharacterNotCovered) (key_holds es h) tt) tt)
+    find_holds es h = exact_holds p es _ h (pick_holds (insensitive r) _ (no NotFound) (pick_holds (wide p) (no CharacterNotCovered) _ tt (key_holds es h)) tt)
 
 descend_no : (v : View) (n : Refusal) (ps : List (List ℕ)) → descend v (no n) ps ≡ no n
 unfolding descend

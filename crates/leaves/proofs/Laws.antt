@@ -42,7 +42,7 @@ module _ (r : Parsed) (a : Answer ObjHeader) (p : parsed r ≡ a) where
   pub header_none : (n : ℕ) (e : Refusal) → r ≡ No e → 0 ≡ header_field n a
   header_none n e q = rw (← p, q)
 
--- an ill_formed part is no longer than the text, so 256 more fits
+-- an ill-formed part is no longer than the text, so 256 more fits
 pub piece_fits : (b : List ℕ) (r : Piece) (n : ℕ) → r ≡ piece_of b → r ≡ IllFormed n → length b * 1 < 2 ^ 63 → Fits w64 (256 + n)
 piece_fits b r n p q h =
     let k : n ≡ size_of (piece_of b) = sym (ap size_of q) ∙ ap size_of p in

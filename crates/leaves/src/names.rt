@@ -1,10 +1,9 @@
-// name_hash.rs, a refusal being 2^32 + 9, and the keys of fs.rs.
+// name_hash.rs. A refusal is 2^32 + 9.
 ghost use Rattle.std.specs.Prelude.{◌≡◌};
 ghost use Rattle.name_hash.specs.Hash.{name_hash, name_len_and_hash};
-ghost use Rattle.unicode_forms.specs.Keys.{same_keys};
-ghost use Rattle.leaves.specs.Leaves.{value_or, is_not0, one_if};
+ghost use Rattle.leaves.specs.Leaves.{value_or, is_not0};
 
-use crate::answers::{one_if, value_or};
+use crate::answers::value_or;
 
 #[unsafe(no_mangle)]
 pub extern "C" fn leaf_hash(name: &[u8], insensitive: u64) -> u64
@@ -21,12 +20,4 @@ pub extern "C" fn leaf_len_and_hash(name: &[u8], insensitive: u64) -> u64
         name_hash::name_len_and_hash(name, insensitive != 0),
         4294967305,
     )
-}
-
-// Whether two names have the same key where names are compared without their forms, and without case too unless `caseless` is 0.
-#[unsafe(no_mangle)]
-pub extern "C" fn leaf_same_key(a: &[u8], b: &[u8], caseless: u64) -> u64
-    ensures { result ≡ one_if (same_keys (is_not0 caseless) a.now b.now) }
-{
-    one_if(keys::same_key(a, b, caseless != 0))
 }

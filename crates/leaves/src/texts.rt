@@ -6,7 +6,7 @@ ghost use Rattle.leaves.specs.Leaves.{piece_number, one_if};
 use crate::answers::one_if;
 use utf8::Piece;
 
-// The next piece: 0 at the end, n for a sequence of n bytes, 256 + n for an ill_formed part of n bytes.
+// The next piece: 0 at the end, n for a sequence of n bytes, 256 + n for an ill-formed part of n bytes.
 #[unsafe(no_mangle)]
 pub extern "C" fn leaf_piece(b: &[u8]) -> u64
     ensures { result ≡ piece_number (piece_of b.now) }

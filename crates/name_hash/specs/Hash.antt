@@ -1,25 +1,34 @@
--- The hash of a directory entry's name. Document 01, "name_hash.rs", and document 02, request 07, which the quotes are from; Apple File System Reference, "File-System Objects", j_drec_hashed_key_t.
-use Rattle.std.specs.Prelude.{ℕ, ◌+◌, ◌*◌, ◌/◌, ◌%◌, ◌^◌, ◌-◌, Bool, List, [], ◌∷◌, ◌++◌, length}
-use Rattle.error.specs.Answer.{Answer, got, no, ◌>>=◌, pick}
+-- The hash of a directory entry's name. Document 01, "name_hash.rs", which the quotes are from; Apple File System Reference, "File-System Objects", j_drec_hashed_key_t.
+use Rattle.std.specs.Prelude.{ℕ, ◌+◌, ◌*◌, ◌%◌, ◌^◌, ◌-◌, Bool, List, [], ◌∷◌, length}
+use Rattle.error.specs.Answer.{Answer, got, no, ◌>>=◌, pick, if_le}
 use Rattle.error.specs.declared.Refusal.TheVariants.{CharacterNotCovered}
 use Rattle.crc.specs.Crc.{crc}
-use Rattle.unicode_forms.specs.Keys.{hashed_of, covered_text}
 
 -- "CRC-32C (reflected 0x82F63B78)": Castagnoli's polynomial
 abbrev pub castagnoli : ℕ
 castagnoli = 0x82F63B78
 
--- "each character as 4 bytes", little-endian
-unfoldable pub four_bytes : ℕ → List ℕ
-four_bytes c = c % 256 ∷ c / 256 % 256 ∷ c / 65536 % 256 ∷ c / 16777216 % 256 ∷ []
+-- "lower case", of an ASCII character
+unfoldable pub lower : ℕ → ℕ
+lower x = if_le 65 x (if_le x 90 (x + 32) x) x
 
+-- a character as the rule compares it: "For ASCII names, any other being 9: lower case if insensitive"
+unfoldable pub fold_case : Bool → ℕ → Answer ℕ
+fold_case i x = if_le x 127 (got (pick i (lower x) x)) (no CharacterNotCovered)
+
+-- the same of every character of a name, the first that is not covered counting
+unfoldable pub fold_all : Bool → List ℕ → Answer (List ℕ)
+fold_all i [] = got []
+fold_all i (x ∷ b) = fold_case i x >>= λ y. fold_all i b >>= λ ys. got (y ∷ ys)
+
+-- "each character as 4 bytes"
 unfoldable pub utf32 : List ℕ → List ℕ
 utf32 [] = []
-utf32 (c ∷ cs) = four_bytes c ++ utf32 cs
+utf32 (x ∷ b) = x ∷ 0 ∷ 0 ∷ 0 ∷ utf32 b
 
--- "started at all ones and not complemented, low 22 bits"; request 07: "The name hash takes the same ranges", "a character outside them still gives 9"
+-- "started at all ones and not complemented, low 22 bits"
 unfoldable pub name_hash : Bool → List ℕ → Answer ℕ
-name_hash i name = pick (covered_text name) (got (crc castagnoli (2 ^ 32 - 1) (utf32 (hashed_of i name)) % 2 ^ 22)) (no CharacterNotCovered)
+name_hash i name = fold_all i name >>= λ b. got (crc castagnoli (2 ^ 32 - 1) (utf32 b) % 2 ^ 22)
 
 -- name_hash.rs, `name_len_and_hash`: the length with the closing zero byte in the low 10 bits, the hash above them
 unfoldable pub name_len_and_hash : Bool → List ℕ → Answer ℕ

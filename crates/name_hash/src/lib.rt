@@ -1,21 +1,13 @@
 // The hash stored with a directory entry's name (name_hash.rs).
-#![tactic(auto)]
-
-ghost use Rattle.std.specs.Prelude.{◌≡◌, ◌-◌, ◌^◌};
+ghost use Rattle.std.specs.Prelude.{◌≡◌, [], ◌∷◌};
 ghost use Rattle.byte_fields.specs.Number.{told};
 ghost use Rattle.crc.specs.Crc.{crc};
 ghost use Rattle.crc.specs.Tabled.{TableRule};
-ghost use Rattle.unicode_forms.specs.Keys.{canonical};
-ghost use Rattle.unicode_forms.specs.Stream.{letters};
-ghost use Rattle.keys.specs.Told.{left_of};
-ghost use Rattle.name_hash.specs.Hash.{castagnoli, four_bytes, utf32, name_hash, name_len_and_hash};
-ghost use Rattle.name_hash.specs.Fed.{FedFrom};
+ghost use Rattle.name_hash.specs.Hash.{castagnoli, lower, fold_case, name_hash, name_len_and_hash};
 
 use byte_fields::Number;
 use crc::{byte_step, crc_of};
 use error::Refusal;
-use keys::{Cursor, Pending, Step, covers, next_letter};
-use unicode_forms::class_of;
 
 // A byte's word is the byte after eight shifts.
 const TABLE: [u32; 256] = [
@@ -61,14 +53,12 @@ fn table() -> [u32; 256]
 }
 
 // A character as 4 bytes.
-fn character_step(words: &[u32], register: u32, c: u32) -> u32
+fn character_step(words: &[u32], register: u32, x: u8) -> u32
     requires { TableRule castagnoli words.now }
-    ensures { result ≡ crc castagnoli register (four_bytes c) }
+    ensures { result ≡ crc castagnoli register (x ∷ 0 ∷ 0 ∷ 0 ∷ []) }
 {
-    let w = byte_step(words, register, (c % 256) as u8);
-    let x = byte_step(words, w, (c / 256 % 256) as u8);
-    let y = byte_step(words, x, (c / 65536 % 256) as u8);
-    byte_step(words, y, (c / 16777216 % 256) as u8)
+    let first = byte_step(words, register, x);
+    byte_step(words, byte_step(words, byte_step(words, first, 0), 0), 0)
 }
 
 pub fn crc32c_raw(register: u32, b: &[u8]) -> u32
@@ -78,89 +68,54 @@ pub fn crc32c_raw(register: u32, b: &[u8]) -> u32
     crc_of(&words, register, b)
 }
 
-// The register, and where it goes on.
-#[derive(Clone, Copy)]
-pub struct Fed {
-    pub register: u32,
-    pub cursor: Cursor,
-}
-
-// The marks of a class that stand before the next starter.
-fn feed_marks(
-    words: &[u32],
-    b: &[u8],
-    caseless: bool,
-    from: Cursor,
-    class: u32,
-    register: u32,
-) -> Fed
-    requires { TableRule castagnoli words.now }
-    ensures { FedFrom caseless b.now (left_of caseless b.now from) class register result }
+pub fn lower_case(x: u8) -> u8
+    ensures { result ≡ lower x }
 {
-    let mut c = register;
-    let mut cursor = from;
-    loop {
-        match next_letter(b, caseless, cursor) {
-            Step::End => {
-                return Fed {
-                    register: c,
-                    cursor: cursor,
-                };
-            }
-            Step::Letter(x, after) => {
-                let m = class_of(x);
-                if m == 0 {
-                    return Fed {
-                        register: c,
-                        cursor: cursor,
-                    };
-                }
-                cursor = after;
-                if m != class {
-                    continue;
-                }
-                c = character_step(words, c, x);
-            }
-        }
+    if x < 65 {
+        return x;
     }
+    if x <= 90 {
+        return x + 32;
+    }
+    x
 }
 
-// The letters of a name in canonical order, with nothing stored: of a run of marks those below, then, from its start again, those above.
-fn feed_all(words: &[u32], b: &[u8], caseless: bool) -> u32
+// A character as names are compared.
+pub fn fold_case(x: u8, insensitive: bool) -> Number
+    ensures { told result ≡ fold_case insensitive x }
+{
+    if 127 < x {
+        return Number::No(Refusal::CharacterNotCovered);
+    }
+    if insensitive {
+        return Number::Got(lower_case(x) as u64);
+    }
+    Number::Got(x as u64)
+}
+
+fn hash_by(words: &[u32], name: &[u8], insensitive: bool) -> Number
     requires { TableRule castagnoli words.now }
-    ensures { result ≡ crc castagnoli (2 ^ 32 - 1) (utf32 (canonical (letters caseless b.now))) }
+    ensures { told result ≡ name_hash insensitive name.now }
 {
     let mut c: u32 = 0xFFFFFFFF;
-    let mut cursor = Cursor {
-        at: 0,
-        pending: Pending::Nothing,
-    };
-    loop {
-        match next_letter(b, caseless, cursor) {
-            Step::End => return c,
-            Step::Letter(x, after) => {
-                if class_of(x) == 0 {
-                    c = character_step(words, c, x);
-                    cursor = after;
-                    continue;
-                }
-                let under = feed_marks(words, b, caseless, cursor, 202, c);
-                let over = feed_marks(words, b, caseless, cursor, 230, under.register);
-                c = over.register;
-                cursor = over.cursor;
+    let mut i = 0;
+    while i < name.len() {
+        match fold_case(name[i], insensitive) {
+            Number::Got(x) => {
+                c = character_step(words, c, x as u8);
             }
+            Number::No(e) => return Number::No(e),
         }
+        i += 1;
     }
+    Number::Got((c % 4194304) as u64)
 }
 
 pub fn name_hash(name: &[u8], insensitive: bool) -> Number
     ensures { told result ≡ name_hash insensitive name.now }
 {
-    if !covers(name) {
-        return Number::No(Refusal::CharacterNotCovered);
-    }
     let words = table();
-    Number::Got((feed_all(&words, name, insensitive) % 4194304) as u64)
+    hash_by(&words, name, insensitive)
 }
 
 // The length, with the closing zero byte, below the hash.

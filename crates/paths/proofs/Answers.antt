@@ -14,7 +14,7 @@ use Rattle.inode_record.specs.declared.inode.Inode.{Inode}
 use Rattle.lists.specs.Lists.{entries_of, inode_of}
 use Rattle.paths.specs.Parts.{parts_of}
 use Rattle.volume.specs.Rule.{rule_of, insensitive}
-use Rattle.unicode_forms.specs.Keys.{covered_text, same_keys}
+use Rattle.paths.specs.Names.{wide, same_keys}
 use Rattle.paths.specs.Find.{exact_match, key_match, find_entry}
 use Rattle.paths.specs.Lookup.{name_read, entry_in, part_inode, walk_parts, lookup_path}
 use Rattle.volume.specs.declared.rule.NameRule.{NameRule}
@@ -36,21 +36,21 @@ module _ {A B : Type 0} (g : A → B) (name : A → List ℕ) (label : B → Lis
   key_map : (es : List A) → key_match rule label p (map g es) ≡ shown (key_match rule name p es)
   unfolding key_match
   key_map [] = refl
-  key_map (e ∷ es) = rw (same e) (of (key_map es) (covered_text (name e)) (same_keys rule.case_insensitive p (name e)))
+  key_map (e ∷ es) = rw (same e) (of (key_map es) (wide (name e)) (same_keys rule.case_insensitive rule.normalization_insensitive p (name e)))
     where
       of : key_match rule label p (map g es) ≡ shown (key_match rule name p es) → (d t : Bool)
-          → pick d (pick t (got (g e)) (key_match rule label p (map g es))) (no CharacterNotCovered) ≡ shown (pick d (pick t (got e) (key_match rule name p es)) (no CharacterNotCovered))
-      of h true true = refl
-      of h true false = h
-      of h false t = refl
+          → pick d (no CharacterNotCovered) (pick t (got (g e)) (key_match rule label p (map g es))) ≡ shown (pick d (no CharacterNotCovered) (pick t (got e) (key_match rule name p es)))
+      of h true t = refl
+      of h false true = refl
+      of h false false = h
 
   pub find_map : (es : List A) → find_entry rule label p (map g es) ≡ (find_entry rule name p es >>= λ e. got (g e))
   unfolding find_entry
-  find_map es = ap (exact_match label p (map g es)) (of (insensitive rule) (covered_text p)) ∙ exact_map es _
+  find_map es = ap (exact_match label p (map g es)) (of (insensitive rule) (wide p)) ∙ exact_map es _
     where
-      of : (d t : Bool) → pick d (pick t (key_match rule label p (map g es)) (no CharacterNotCovered)) (no NotFound) ≡ shown (pick d (pick t (key_match rule name p es) (no CharacterNotCovered)) (no NotFound))
-      of true true = key_map es
-      of true false = refl
+      of : (d t : Bool) → pick d (pick t (no CharacterNotCovered) (key_match rule label p (map g es))) (no NotFound) ≡ shown (pick d (pick t (no CharacterNotCovered) (key_match rule name p es)) (no NotFound))
+      of true true = refl
+      of true false = key_map es
       of false t = refl
 
 -- part after part, by the entries and the inode of an id

@@ -1,6 +1,6 @@
 -- Choosing entry after entry is choosing in the whole list.
 use Prim.Native.Nat.{ℕ}
-use mathlib.Core.Path.{◌≡◌, refl, sym, ap, ◌∙◌}
+use mathlib.Core.Path.{◌≡◌, refl, sym, ◌∙◌}
 use mathlib.Core.Bool.{Bool, true, false}
 use mathlib.Core.List.{List, [], ◌∷◌}
 use native.Mathlib.Omega.{arith}
@@ -12,56 +12,29 @@ use Rattle.utf8.specs.Text.{lossy, same_bytes}
 use Rattle.utf8.proofs.Equal.{same_equal, equal_same, unlike}
 use Rattle.records.specs.declared.directory.Entry.{Entry}
 use Rattle.volume.specs.Rule.{insensitive}
-use Rattle.unicode_forms.specs.Keys.{covered_text, same_keys}
-use Rattle.keys.specs.Told.{keys_say, same_or}
-use Rattle.keys.specs.declared.matching.Verdict.{Verdict}
-use Rattle.keys.specs.declared.matching.Verdict.TheVariants.{Same, Other, Uncovered}
-use Rattle.keys.proofs.RangeLaws.{covered_reading, covered_text_lem}
+use Rattle.paths.specs.Names.{wide, same_keys}
 use Rattle.paths.specs.Find.{exact_match, key_match, find_entry}
 use Rattle.paths.specs.Inner.{none_yet, unless_exact, by_key, weighed, settled}
 use Rattle.volume.specs.declared.rule.NameRule.{NameRule}
 use Rattle.paths.specs.declared.choose.Choice.{Choice}
 use Rattle.paths.specs.declared.choose.Choice.TheVariants.{Open, Exact, Keyed, No}
+use Rattle.paths.proofs.Keys.{wide_reading, ascii_reading}
 
 -- a choice that is refused
 pub settle_no : (c : Choice) (w : Refusal) → c ≡ No w → no w ≡ settled c
 settle_no c w h = rw h
 
--- what the keys say of a name, which is compared as it stands where it is covered
-chosen_by : Entry → Verdict → Choice
-chosen_by e Same = Keyed e
-chosen_by e Other = Open
-chosen_by e Uncovered = No CharacterNotCovered
+-- an ASCII name is compared as it stands
+module _ (rule : NameRule) (name p : List ℕ) (e : Entry) (k : Bool) (h : k ≡ wide name) where
+  pub key_wide : k ≡ true → No CharacterNotCovered ≡ by_key rule (lossy name) p e
+  unfolding by_key
+  key_wide t = picked _ _ _ _ (wide_reading name ∙ sym h ∙ t) refl
 
-module _ (rule : NameRule) (name p : List ℕ) (e : Entry) where
-  said : chosen_by e (keys_say rule.case_insensitive p name) ≡ by_key rule (lossy name) p e
-  unfolding keys_say same_or by_key chosen_by
-  said = rw covered_reading (of (covered_text name) refl)
-    where
-      chosen : (s : Bool) → chosen_by e (pick s Same Other) ≡ pick s (Keyed e) Open
-      chosen true = refl
-      chosen false = refl
-
-      of : (d : Bool) → covered_text name ≡ d
-          → chosen_by e (pick d (pick (same_keys rule.case_insensitive p name) Same Other) Uncovered) ≡ pick d (pick (same_keys rule.case_insensitive p (lossy name)) (Keyed e) Open) (No CharacterNotCovered)
-      of true h = rw (covered_text_lem name h) (chosen (same_keys rule.case_insensitive p name))
-      of false h = refl
-
-  module _ (v : Verdict) (h : v ≡ keys_say rule.case_insensitive p name) where
-    by_verdict : (w : Verdict) → v ≡ w → chosen_by e w ≡ by_key rule (lossy name) p e
-    by_verdict w k = ap (chosen_by e) (sym k ∙ h) ∙ said
-
-    pub key_same : v ≡ Same → Keyed e ≡ by_key rule (lossy name) p e
-    unfolding chosen_by
-    key_same k = by_verdict Same k
-
-    pub key_other : v ≡ Other → Open ≡ by_key rule (lossy name) p e
-    unfolding chosen_by
-    key_other k = by_verdict Other k
-
-    pub key_uncovered : v ≡ Uncovered → No CharacterNotCovered ≡ by_key rule (lossy name) p e
-    unfolding chosen_by
-    key_uncovered k = by_verdict Uncovered k
+  pub key_ascii : (z : Choice) → k ≡ false → z ≡ pick (same_keys rule.case_insensitive rule.normalization_insensitive p name) (Keyed e) Open → z ≡ by_key rule (lossy name) p e
+  unfolding by_key
+  key_ascii z t g =
+      let w : wide name ≡ false = sym h ∙ t in
+      not_picked _ _ _ _ (wide_reading name ∙ w) (rw (ascii_reading name w) g)
 
 -- an entry by what is known before it
 module _ (rule : NameRule) (name p : List ℕ) (e : Entry) (c r : Choice) where
@@ -99,9 +72,9 @@ module _ (rule : NameRule) (name : Entry → List ℕ) (p : List ℕ) where
 
   pub chosen_start : (es : List Entry) → chosen (none_yet rule p) es ≡ find_entry rule name p es
   unfolding chosen none_yet find_entry
-  chosen_start es = of (insensitive rule) (covered_text p)
+  chosen_start es = of (insensitive rule) (wide p)
     where
-      of : (d t : Bool) → chosen (pick d (pick t Open (No CharacterNotCovered)) (No NotFound)) es ≡ exact_match name p es (pick d (pick t (key_match rule name p es) (no CharacterNotCovered)) (no NotFound))
+      of : (d t : Bool) → chosen (pick d (pick t (No CharacterNotCovered) Open) (No NotFound)) es ≡ exact_match name p es (pick d (pick t (no CharacterNotCovered) (key_match rule name p es)) (no NotFound))
       of true true = refl
       of true false = refl
       of false t = refl
@@ -117,12 +90,12 @@ module _ (rule : NameRule) (name : Entry → List ℕ) (p : List ℕ) where
 
   key_next : (e : Entry) (es : List Entry) → chosen (by_key rule (name e) p e) es ≡ exact_match name p es (key_match rule name p (e ∷ es))
   unfolding chosen by_key key_match
-  key_next e es = of (covered_text (name e)) (same_keys rule.case_insensitive p (name e))
+  key_next e es = of (wide (name e)) (same_keys rule.case_insensitive rule.normalization_insensitive p (name e))
     where
-      of : (d t : Bool) → chosen (pick d (pick t (Keyed e) Open) (No CharacterNotCovered)) es ≡ exact_match name p es (pick d (pick t (got e) (key_match rule name p es)) (no CharacterNotCovered))
-      of true true = refl
-      of true false = refl
-      of false t = refl
+      of : (d t : Bool) → chosen (pick d (No CharacterNotCovered) (pick t (Keyed e) Open)) es ≡ exact_match name p es (pick d (no CharacterNotCovered) (pick t (got e) (key_match rule name p es)))
+      of true t = refl
+      of false true = refl
+      of false false = refl
 
   pub chosen_next : (c : Choice) (e : Entry) (es : List Entry) → chosen c (e ∷ es) ≡ chosen (weighed rule (name e) p e c) es
   unfolding chosen weighed
@@ -138,4 +111,4 @@ module _ (rule : NameRule) (name : Entry → List ℕ) (p : List ℕ) where
   chosen_end (Keyed x) = refl
   chosen_end (No w) = refl
 
-pub ruleset weighing = (key_same, key_other, key_uncovered, weigh_open, weigh_exact, weigh_keyed, weigh_no)
+pub ruleset weighing = (key_wide, key_ascii, weigh_open, weigh_exact, weigh_keyed, weigh_no)

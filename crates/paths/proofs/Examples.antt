@@ -5,13 +5,12 @@ use mathlib.Core.Bool.{true, false}
 use mathlib.Core.List.{List, [], ◌∷◌}
 use Rattle.error.specs.Answer.{got, no, if_le, if_eq}
 use Rattle.error.specs.declared.Refusal.TheVariants.{NotFound, CharacterNotCovered}
-use Rattle.utf8.specs.Text.{if_in, rest_of, agree, piece_of, same_bytes}
-use Rattle.utf8.specs.Characters.{scalar_of, characters_in, characters}
-use Rattle.unicode_forms.specs.Data.{any_in, class_of, in_rows, decompose, lower_one, lower}
-use Rattle.unicode_forms.specs.Keys.{flat, if_reorderable, place, canonical, fold, key_of, all_covered, covered_text, same_keys}
+use Rattle.utf8.specs.Text.{same_bytes}
+use Rattle.name_hash.specs.Hash.{lower}
 use Rattle.records.specs.declared.directory.Entry.{Entry}
 use Rattle.paths.specs.Parts.{is_separator, split_of, parts_of}
 use Rattle.paths.specs.Inner.{leading, next_part}
+use Rattle.paths.specs.Names.{wide, folded, folded_key, same_keys}
 use Rattle.paths.specs.Find.{exact_match, key_match, find_entry}
 use Rattle.volume.specs.declared.rule.NameRule.{NameRule}
 
@@ -35,7 +34,25 @@ second : next_part (97 ∷ 47 ∷ 47 ∷ 98 ∷ []) 1 ≡ record { start = 3; le
 unfolding next_part leading is_separator if_eq
 second = refl
 
--- entries 0 to 3 of a directory, by their ids: "A", "a", "a", and U+2126, which is outside the ranges
+-- U+007F is the last that is covered
+covered : wide (97 ∷ 127 ∷ []) ≡ false
+unfolding wide if_le
+covered = refl
+
+not_covered : wide (97 ∷ 0xC3 ∷ 0xA4 ∷ []) ≡ true
+unfolding wide if_le
+not_covered = refl
+
+-- "AZ@[" where case does not count, and where only normalization does not
+key_caseless : folded_key true false (65 ∷ 90 ∷ 64 ∷ 91 ∷ []) ≡ 97 ∷ 122 ∷ 64 ∷ 91 ∷ []
+unfolding folded_key folded lower if_le
+key_caseless = refl
+
+key_cased : folded_key false true (65 ∷ 90 ∷ []) ≡ 65 ∷ 90 ∷ []
+unfolding folded_key folded
+key_cased = refl
+
+-- entries 0 to 3 of a directory, by their ids: "A", "a", "a", and "ä"
 entry : ℕ → Entry
 entry n = record { place = record { block = 0; key_off = 0; key_len = 0; val_off = 0; val_len = 0 }; name = record { start = 0; len = 0 }; file_id = n; date_added = 0; kind = 8 }
 
@@ -43,7 +60,7 @@ named : ℕ → List ℕ
 named zero = 65 ∷ []
 named (suc zero) = 97 ∷ []
 named (suc (suc zero)) = 97 ∷ []
-named (suc (suc (suc n))) = 0xE2 ∷ 0x84 ∷ 0xA6 ∷ []
+named (suc (suc (suc n))) = 0xC3 ∷ 0xA4 ∷ []
 
 name_of : Entry → List ℕ
 name_of e = named e.file_id
@@ -67,34 +84,34 @@ exact_behind : find_entry case_insensitive name_of (97 ∷ []) (entry 3 ∷ entr
 unfolding find_entry exact_match same_bytes if_eq name_of named entry
 exact_behind = refl
 
-exact_wide : find_entry case_insensitive name_of (0xE2 ∷ 0x84 ∷ 0xA6 ∷ []) (entry 0 ∷ entry 3 ∷ []) ≡ got (entry 3)
+exact_wide : find_entry case_insensitive name_of (0xC3 ∷ 0xA4 ∷ []) (entry 0 ∷ entry 3 ∷ []) ≡ got (entry 3)
 unfolding find_entry exact_match same_bytes if_eq name_of named entry
 exact_wide = refl
 
 -- else the first with an equal key, before one that is not covered
 keyed : find_entry case_insensitive name_of (65 ∷ []) (entry 1 ∷ entry 2 ∷ entry 3 ∷ []) ≡ got (entry 1)
-unfolding find_entry exact_match key_match same_keys key_of canonical place if_reorderable flat fold decompose in_rows lower lower_one class_of covered_text all_covered characters characters_in scalar_of piece_of rest_of agree any_in if_in same_bytes if_eq if_le name_of named entry case_insensitive
+unfolding find_entry exact_match key_match same_keys folded_key folded lower wide same_bytes if_eq if_le name_of named entry case_insensitive
 keyed = refl
 
 -- 9 behind one that is not covered
 keyed_behind : find_entry case_insensitive name_of (65 ∷ []) (entry 3 ∷ entry 1 ∷ []) ≡ no CharacterNotCovered
-unfolding find_entry exact_match key_match same_keys key_of canonical place if_reorderable flat fold decompose in_rows lower lower_one class_of covered_text all_covered characters characters_in scalar_of piece_of rest_of agree any_in if_in same_bytes if_eq if_le name_of named entry case_insensitive
+unfolding find_entry exact_match key_match same_keys folded_key folded lower wide same_bytes if_eq if_le name_of named entry case_insensitive
 keyed_behind = refl
 
 -- where only normalization does not count, case does, and 9 is met all the same
 cased : find_entry normalization_insensitive name_of (65 ∷ []) (entry 1 ∷ entry 2 ∷ []) ≡ no NotFound
-unfolding find_entry exact_match key_match same_keys key_of canonical place if_reorderable flat fold decompose in_rows lower lower_one class_of covered_text all_covered characters characters_in scalar_of piece_of rest_of agree any_in if_in same_bytes if_eq if_le name_of named entry normalization_insensitive
+unfolding find_entry exact_match key_match same_keys folded_key folded lower wide same_bytes if_eq if_le name_of named entry normalization_insensitive
 cased = refl
 
 cased_behind : find_entry normalization_insensitive name_of (65 ∷ []) (entry 1 ∷ entry 3 ∷ []) ≡ no CharacterNotCovered
-unfolding find_entry exact_match key_match same_keys key_of canonical place if_reorderable flat fold decompose in_rows lower lower_one class_of covered_text all_covered characters characters_in scalar_of piece_of rest_of agree any_in if_in same_bytes if_eq if_le name_of named entry normalization_insensitive
+unfolding find_entry exact_match key_match same_keys folded_key folded lower wide same_bytes if_eq if_le name_of named entry normalization_insensitive
 cased_behind = refl
 
 -- a part that is not covered is 9 in an empty directory, but 4 on a sensitive volume
-part_first : find_entry case_insensitive name_of (0xE2 ∷ 0x84 ∷ 0xA6 ∷ []) [] ≡ no CharacterNotCovered
-unfolding find_entry exact_match covered_text all_covered characters characters_in scalar_of piece_of rest_of agree any_in if_in if_le if_eq case_insensitive
+part_first : find_entry case_insensitive name_of (0xC3 ∷ 0x84 ∷ []) [] ≡ no CharacterNotCovered
+unfolding find_entry exact_match wide if_le case_insensitive
 part_first = refl
 
-part_sensitive : find_entry sensitive name_of (0xE2 ∷ 0x84 ∷ 0xA7 ∷ []) (entry 3 ∷ []) ≡ no NotFound
+part_sensitive : find_entry sensitive name_of (0xC3 ∷ 0x84 ∷ []) (entry 3 ∷ []) ≡ no NotFound
 unfolding find_entry exact_match same_bytes if_eq name_of named entry sensitive
 part_sensitive = refl

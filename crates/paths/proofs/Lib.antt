@@ -1,5 +1,6 @@
 pub mod Laws
 pub mod Parts
+pub mod Keys
 pub mod Chosen
 pub mod Directory
 pub mod Walking

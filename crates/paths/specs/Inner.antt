@@ -10,14 +10,14 @@ use Rattle.utf8.specs.Text.{same_bytes}
 use Rattle.records.specs.declared.directory.Entry.{Entry}
 use Rattle.paths.specs.Parts.{is_separator}
 use Rattle.volume.specs.Rule.{insensitive}
-use Rattle.unicode_forms.specs.Keys.{covered_text, same_keys}
+use Rattle.paths.specs.Names.{wide, same_keys}
 use Rattle.volume.specs.declared.rule.NameRule.{NameRule}
 use Rattle.paths.specs.declared.choose.Choice.{Choice}
 use Rattle.paths.specs.declared.choose.Choice.TheVariants.{Open, Exact, Keyed, No}
 
 -- "in key comparison on an insensitive volume", "The part is tested first"
 unfoldable pub none_yet : NameRule → List ℕ → Choice
-none_yet rule p = pick (insensitive rule) (pick (covered_text p) Open (No CharacterNotCovered)) (No NotFound)
+none_yet rule p = pick (insensitive rule) (pick (wide p) (No CharacterNotCovered) Open) (No NotFound)
 
 -- "the first exactly equal name is taken"
 unfoldable pub unless_exact : List ℕ → List ℕ → Entry → Choice → Choice
@@ -25,7 +25,7 @@ unless_exact name p e other = pick (same_bytes name p) (Exact e) other
 
 -- "else the first with an equal key", or 9
 unfoldable pub by_key : NameRule → List ℕ → List ℕ → Entry → Choice
-by_key rule name p e = pick (covered_text name) (pick (same_keys rule.case_insensitive p name) (Keyed e) Open) (No CharacterNotCovered)
+by_key rule name p e = pick (wide name) (No CharacterNotCovered) (pick (same_keys rule.case_insensitive rule.normalization_insensitive p name) (Keyed e) Open)
 
 -- what is known after an entry of a name
 unfoldable pub weighed : NameRule → List ℕ → List ℕ → Entry → Choice → Choice

@@ -1,4 +1,5 @@
 pub mod Parts
+pub mod Names
 pub mod Find
 pub mod Lookup
 pub mod Inner

@@ -4,15 +4,15 @@ ghost use Rattle.records.specs.Directory.{entry_told};
 ghost use Rattle.utf8.specs.Text.{lossy};
 ghost use Rattle.paths.specs.Inner.{none_yet, unless_exact, by_key, weighed, settled};
 
+use crate::compare::{is_wide, same_key};
 use error::Refusal;
-use keys::{Verdict, covers, keys_say};
 use records::{Entry, EntryRead};
 use utf8::reads_as;
 use volume::{NameRule, insensitive};
 
 // What is known before the next entry: nothing, the entry of exactly that name, or what the keys say, should no later
 // name be exactly equal.
-#[derive(Clone, Copy)]
+#[derive(Drop)]
 pub enum Choice {
     Open,
     Exact(Entry),
@@ -27,7 +27,7 @@ pub fn none_yet(rule: NameRule, part: &[u8]) -> Choice
     if !insensitive(rule) {
         return Choice::No(Refusal::NotFound);
     }
-    if covers(part) {
+    if !is_wide(part) {
         return Choice::Open;
     }
     Choice::No(Refusal::CharacterNotCovered)
@@ -45,11 +45,13 @@ fn unless_exact(name: &[u8], part: &[u8], e: Entry, other: Choice) -> Choice
 fn by_key(rule: NameRule, name: &[u8], part: &[u8], e: Entry) -> Choice
     ensures { result ≡ by_key rule (lossy name.now) part.now e }
 {
-    match keys_say(part, name, rule.case_insensitive) {
-        Verdict::Same => Choice::Keyed(e),
-        Verdict::Other => Choice::Open,
-        Verdict::Uncovered => Choice::No(Refusal::CharacterNotCovered),
+    if is_wide(name) {
+        return Choice::No(Refusal::CharacterNotCovered);
     }
+    if same_key(rule, part, name) {
+        return Choice::Keyed(e);
+    }
+    Choice::Open
 }
 
 // What is known after an entry.

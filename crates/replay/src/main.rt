@@ -2,14 +2,12 @@
 //
 // A record is its op (1 byte), a, b and the expected answer (8 bytes each), the input's length (4), the input; numbers are
 // little-endian. Op 0 ends the file.
-#![tactic(auto)]
-
 use byte_fields::Number;
 
 const HEAD: usize = 29;
 
 // A record's numbers, and where its input lies in the file.
-#[derive(Clone, Copy)]
+#[derive(Drop)]
 struct Record {
     op: u8,
     a: u64,
@@ -19,7 +17,7 @@ struct Record {
     end: usize,
 }
 
-#[derive(Clone, Copy)]
+#[derive(Drop)]
 enum Step {
     Record(Record),
     End,
@@ -27,7 +25,7 @@ enum Step {
     Broken,
 }
 
-#[derive(Clone, Copy)]
+#[derive(Drop)]
 struct Tally {
     agree: u64,
     differ: u64,
@@ -82,15 +80,6 @@ fn reads_as(input: &[u8], n: usize) -> u64 {
     }
 }
 
-// The input is two names; n is the length of the first.
-fn same_key(input: &[u8], n: usize, caseless: u64) -> u64 {
-    if n <= input.len() {
-        leaves::leaf_same_key(&input[..n], &input[n..], caseless)
-    } else {
-        2
-    }
-}
-
 fn answer(op: u8, a: u64, b: u64, input: &[u8]) -> u64 {
     match op {
         1 => leaves::leaf_number(input, a as usize, b as usize),
@@ -108,7 +97,6 @@ fn answer(op: u8, a: u64, b: u64, input: &[u8]) -> u64 {
         13 => leaves::leaf_header(input, a),
         14 => leaves::leaf_header_refused(input),
         15 => leaves::leaf_read_at(input, a, b as usize),
-        16 => same_key(input, a as usize, b),
         _ => 0,
     }
 }
@@ -117,7 +105,7 @@ fn answer(op: u8, a: u64, b: u64, input: &[u8]) -> u64 {
 fn agrees(file: &[u8], r: Record) -> bool {
     let start = r.start;
     let end = r.end;
-    if 16 < r.op {
+    if 15 < r.op {
         return false;
     }
     if end < start {

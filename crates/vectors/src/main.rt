@@ -1,6 +1,4 @@
 // Runs vectors of public documents over the leaves and prints what they give. The file `stdout` has what the documents say.
-#![tactic(auto)]
-
 mod fields;
 mod sums;
 mod texts;

@@ -76,16 +76,7 @@ pub fn hashes() {
         name_hash::name_len_and_hash(b"", true),
     );
     show_hash(
-        b"hash of U+00C4, lowered",
-        name_hash::name_hash(b"\xC3\x84", true),
-    );
-    show_hash(b"hash of U+00C4", name_hash::name_hash(b"\xC3\x84", false));
-    show_hash(
-        b"hash of U+C815 U+BB38",
-        name_hash::name_hash(b"\xEC\xA0\x95\xEB\xAC\xB8", true),
-    );
-    show_hash(
-        b"hash of U+2126",
-        name_hash::name_hash(b"\xE2\x84\xA6", true),
+        b"hash of a name beyond ASCII",
+        name_hash::name_hash(b"\xC3\xA4", true),
     );
 }

@@ -1,4 +1,4 @@
-// Unicode Standard, chapter 3, Tables 3-8 to 3-11: which parts of an ill_formed text U+FFFD stands for.
+// Unicode Standard, chapter 3, Tables 3-8 to 3-11: which parts of an ill-formed text U+FFFD stands for.
 ghost use Rattle.std.specs.Prelude.{◌≤◌, ◌<◌, length};
 
 use utf8::Piece;
@@ -17,7 +17,7 @@ fn past(at: usize, n: usize, end: usize) -> usize
     end
 }
 
-// Prints a piece's size, an ill_formed one's behind an x, and answers where the next starts.
+// Prints a piece's size, an ill-formed one's behind an x, and answers where the next starts.
 fn show_piece(text: &[u8], at: usize) -> usize
     requires { at < length text.now }
     ensures { (at < result) × (result ≤ length text.now) }

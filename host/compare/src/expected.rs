@@ -2,11 +2,9 @@
 
 use oracle::dev::BlockDevice;
 use oracle::error::Error;
-use oracle::fs::NameRule;
 use oracle::obj::ObjHeader;
 use oracle::{checksum, name_hash, probe};
 
-use crate::forms::{covered, is_korean};
 use crate::leaf::{Case, Leaf};
 
 pub struct Expected {
@@ -33,29 +31,7 @@ const PIECES: [&str; 8] = [
     "ill-formed, 2 bytes",
     "ill-formed, 3 bytes",
 ];
-const HASHES: [&str; 10] = [
-    "sensitive",
-    "insensitive",
-    "insensitive, folded",
-    "accented, sensitive",
-    "accented, insensitive",
-    "accented, insensitive, folded",
-    "Korean, sensitive",
-    "Korean, insensitive",
-    "Korean, insensitive, folded",
-    "refused with 9",
-];
-const KEYS: [&str; 9] = [
-    "same bytes",
-    "equal",
-    "accented, equal",
-    "Korean, equal",
-    "different",
-    "accented, different",
-    "Korean, different",
-    "different in case alone",
-    "different in the order of marks alone",
-];
+const HASHES: [&str; 4] = ["sensitive", "insensitive", "insensitive, folded", "refused with 9"];
 const FIELDS: [&str; 7] = ["checksum", "oid", "xid", "type", "subtype", "kind", "refused"];
 
 /// Every kind of case that a comparison must see.
@@ -74,7 +50,6 @@ pub fn kinds(leaf: Leaf) -> Vec<&'static str> {
         Leaf::Header => FIELDS.to_vec(),
         Leaf::HeaderRefused => vec!["taken", "refused"],
         Leaf::ReadAt => [&BOUNDS[..], &["refused, no such buffer"]].concat(),
-        Leaf::SameKey => KEYS.to_vec(),
     }
 }
 
@@ -95,7 +70,6 @@ pub fn expected(c: &Case) -> Expected {
         Leaf::Header => header(c),
         Leaf::HeaderRefused => header_refused(c.input),
         Leaf::ReadAt => read_at(c),
-        Leaf::SameKey => same_key(c),
     }
 }
 
@@ -177,7 +151,7 @@ fn piece(b: &[u8]) -> Expected {
 }
 
 fn reads_as(c: &Case) -> Expected {
-    let (name, text) = c.both();
+    let (name, text) = c.name_and_text();
     let lossy = String::from_utf8_lossy(name);
     let same = lossy.as_bytes() == text;
     let kind = match (same, std::str::from_utf8(name).is_ok()) {
@@ -215,44 +189,17 @@ fn verify(object: &[u8]) -> Expected {
 }
 
 fn hashed(c: &Case, hash: fn(&str, bool) -> u32) -> Expected {
-    let Some(name) = std::str::from_utf8(c.input).ok().filter(|n| covered(n)) else {
-        return document(NOT_COVERED, HASHES[9]);
+    let Some(name) = std::str::from_utf8(c.input).ok().filter(|n| n.is_ascii()) else {
+        return document(NOT_COVERED, HASHES[3]);
     };
     let insensitive = c.a != 0;
-    let folded = name_hash::fold_case(name) != name;
-    let how = usize::from(insensitive) + usize::from(insensitive && folded);
-    oracle(hash(name, insensitive).into(), HASHES[3 * script(&[name]) + how])
-}
-
-/// 0 for ASCII, 1 for what is accented, 2 for Korean.
-fn script(names: &[&str]) -> usize {
-    let korean = names.iter().any(|n| is_korean(n));
-    usize::from(names.iter().any(|n| !n.is_ascii())) + usize::from(korean)
-}
-
-fn same_key(c: &Case) -> Expected {
-    let (one, other) = c.both();
-    let names = [one, other].map(|b| std::str::from_utf8(b).ok().filter(|n| covered(n)).expect("a covered name"));
-    let keys = |case_insensitive: bool| {
-        let rule = NameRule { case_insensitive, normalization_insensitive: true };
-        names.map(|n| rule.key(n))
+    let folded = name.bytes().any(|x| x.is_ascii_uppercase());
+    let kind = match (insensitive, folded) {
+        (false, _) => HASHES[0],
+        (true, false) => HASHES[1],
+        (true, true) => HASHES[2],
     };
-    let [key, with] = keys(c.b != 0);
-    let same = key == with;
-    let kind = match script(&names) {
-        _ if one == other => KEYS[0],
-        script if same => KEYS[1 + script],
-        _ if c.b == 0 && keys(true)[0] == keys(true)[1] => KEYS[7],
-        _ if sorted(&key) == sorted(&with) && key.chars().next() == with.chars().next() => KEYS[8],
-        script => KEYS[4 + script],
-    };
-    oracle(same as u64, kind)
-}
-
-fn sorted(key: &str) -> Vec<char> {
-    let mut all: Vec<char> = key.chars().collect();
-    all.sort();
-    all
+    oracle(hash(name, insensitive).into(), kind)
 }
 
 fn header(c: &Case) -> Expected {

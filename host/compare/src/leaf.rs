@@ -20,12 +20,11 @@ pub enum Leaf {
     Header,
     HeaderRefused,
     ReadAt,
-    SameKey,
 }
 
 impl Leaf {
     /// In the order of their record numbers, which count from 1.
-    pub const ALL: [(Leaf, &'static str); 16] = [
+    pub const ALL: [(Leaf, &'static str); 15] = [
         (Leaf::Number, "leaf_number"),
         (Leaf::NumberRefused, "leaf_number_refused"),
         (Leaf::SliceRefused, "leaf_slice_refused"),
@@ -41,7 +40,6 @@ impl Leaf {
         (Leaf::Header, "leaf_header"),
         (Leaf::HeaderRefused, "leaf_header_refused"),
         (Leaf::ReadAt, "leaf_read_at"),
-        (Leaf::SameKey, "leaf_same_key"),
     ];
 
     pub fn from_op(op: u8) -> Option<Leaf> {
@@ -54,8 +52,7 @@ impl Leaf {
 }
 
 /// A call: `a` and `b` are the numbers in the order of the leaf's parameters, 0 where it has none.
-/// The input of `leaf_reads_as` is the name and then the text, that of `leaf_same_key` one name and then the other, with
-/// the first one's length in `a`.
+/// The input of `leaf_reads_as` is the name and then the text, with the name's length in `a`.
 #[derive(Clone, Copy, Debug, PartialEq, Eq)]
 pub struct Case<'a> {
     pub leaf: Leaf,
@@ -69,8 +66,8 @@ impl<'a> Case<'a> {
         Case { leaf, a, b, input }
     }
 
-    /// The two texts of `leaf_reads_as` and of `leaf_same_key`.
-    pub fn both(&self) -> (&'a [u8], &'a [u8]) {
+    /// The name and the text of `leaf_reads_as`.
+    pub fn name_and_text(&self) -> (&'a [u8], &'a [u8]) {
         self.input.split_at(self.a as usize)
     }
 
@@ -84,7 +81,7 @@ impl<'a> Case<'a> {
             Leaf::Cstr => port::cstr(x) as u64,
             Leaf::Piece => port::piece(x),
             Leaf::ReadsAs => {
-                let (name, text) = self.both();
+                let (name, text) = self.name_and_text();
                 port::reads_as(name, text)
             }
             Leaf::IsUtf8 => port::is_utf8(x),
@@ -96,10 +93,6 @@ impl<'a> Case<'a> {
             Leaf::Header => port::header(x, a),
             Leaf::HeaderRefused => port::header_refused(x),
             Leaf::ReadAt => port::read_at(x, a, b as usize),
-            Leaf::SameKey => {
-                let (one, other) = self.both();
-                port::same_key(one, other, b)
-            }
         }
     }
 }

@@ -23,7 +23,6 @@ pub mod comparison;
 pub mod desks;
 #[cfg(oracle)]
 pub mod expected;
-pub mod forms;
 pub mod image;
 pub mod leaf;
 #[cfg(oracle)]

@@ -22,7 +22,6 @@ extern "C" {
     fn leaf_header(b: *const u8, b_len: usize, field: u64) -> u64;
     fn leaf_header_refused(b: *const u8, b_len: usize) -> u64;
     fn leaf_read_at(image: *const u8, image_len: usize, off: u64, len: usize) -> u64;
-    fn leaf_same_key(a: *const u8, a_len: usize, b: *const u8, b_len: usize, caseless: u64) -> u64;
 }
 
 // Each call below lends live slices for the call's time.
@@ -97,9 +96,4 @@ pub fn header_refused(b: &[u8]) -> u64 {
 /// 0 where the image has the `len` bytes at `off`, else the refusal's number.
 pub fn read_at(image: &[u8], off: u64, len: usize) -> u64 {
     unsafe { leaf_read_at(image.as_ptr(), image.len(), off, len) }
-}
-
-/// 1 where the keys of two names are equal, else 0. `caseless` is 0 for keys that are not lowered.
-pub fn same_key(a: &[u8], b: &[u8], caseless: u64) -> u64 {
-    unsafe { leaf_same_key(a.as_ptr(), a.len(), b.as_ptr(), b.len(), caseless) }
 }

@@ -39,8 +39,6 @@ fn length(n: usize) -> Length {
 /// Short inputs in numbers; of the others the few that show what short ones can't.
 fn room((leaf, kind, length): Stratum, n: usize) -> usize {
     match (length, leaf) {
-        // Of many kinds, each in several scripts.
-        (Length::Short, Leaf::Hash | Leaf::LenAndHash | Leaf::SameKey) => 12,
         (Length::Short, _) => 36,
         (Length::Middle, _) => 2,
         (Length::Block, Leaf::LenAndHash) => 1,

@@ -37,7 +37,7 @@ fn what_is_cut_or_strange_is_refused() {
     let bytes = encode(&some());
     assert!((0..bytes.len()).all(|n| decode(&bytes[..n]).is_err()));
     assert!(decode(&[&bytes[..], &[0]].concat()).is_err());
-    assert!(decode(&[17]).is_err());
+    assert!(decode(&[16]).is_err());
 }
 
 #[cfg(oracle)]

@@ -1,9 +1,7 @@
 //! What the seed decides, and that every kind of thing is drawn.
 
-use std::collections::BTreeSet;
-
 use sticks::checkpoint::Fault;
-use sticks::contents::{text, Contents, Data, Entry, Extent, Field, File, Key, Source, LINK_ATTRIBUTE, NAME_FIELD};
+use sticks::contents::{text, Contents, Data, Entry, Extent, Field, Key, Source, LINK_ATTRIBUTE, NAME_FIELD};
 use sticks::sums::{checksum, name_hash};
 use sticks::volume::{Lost, Volume};
 use sticks::{damage, damage_at, make, Aim, Plan, Stick};
@@ -237,55 +235,6 @@ fn every_kind_of_name_is_drawn() {
             ("hard links", hard_link),
         ],
     );
-}
-
-fn accented() -> Vec<Contents> {
-    plans().into_iter().flat_map(|p| p.accented().volumes).map(|v| v.contents).collect()
-}
-
-/// A directory with names of two kinds, in this order.
-fn in_order(c: &Contents, first: fn(&str) -> bool, then: fn(&str) -> bool) -> bool {
-    let place = |f: &File, is: fn(&str) -> bool| f.entries.iter().position(|e| is(&text(&e.name)));
-    c.files.iter().any(|f| place(f, first).zip(place(f, then)).is_some_and(|(a, b)| a < b))
-}
-
-fn is_composed(name: &str) -> bool {
-    name.contains(['ä', 'Ä', 'ç', 'Ç', 'č', 'ó', 'Ó', 'İ'])
-}
-
-fn is_outside(name: &str) -> bool {
-    name.contains(['日', '\u{1f9ed}', '\u{305}', '\u{212b}', 'Σ', '\u{1e9e}', '\u{200}', '\u{d7a4}'])
-}
-
-fn marks(name: &[u8]) -> usize {
-    text(name).chars().filter(|c| ('\u{300}'..='\u{328}').contains(c)).count()
-}
-
-#[test]
-fn every_kind_of_accented_name_is_drawn() {
-    let all = accented();
-    let two_forms = |v: &&Contents| in_order(v, is_composed, |n| n.starts_with("Ja\u{308}"));
-    let rules: BTreeSet<_> =
-        all.iter().filter(two_forms).map(|v| (v.case_insensitive, v.normalization_insensitive)).collect();
-    assert_eq!(rules.len(), 4);
-    all_seen(
-        &all,
-        &[
-            ("letters before syllables", |c| in_order(c, |n| n.starts_with('\u{110c}'), |n| n.starts_with('정'))),
-            ("syllables before letters", |c| in_order(c, |n| n.starts_with('정'), |n| n.starts_with('\u{110c}'))),
-            ("a dotted capital", |c| names(c).any(|n| n == "İ".as_bytes())),
-            ("a mark at the head", |c| names(c).any(|n| n.starts_with("\u{301}".as_bytes()))),
-            ("many marks", |c| names(c).any(|n| marks(n) >= 38)),
-            ("what is not covered before", |c| in_order(c, is_outside, is_composed)),
-            ("what is not covered after", |c| in_order(c, is_composed, is_outside)),
-            ("U+0305", |c| names(c).any(|n| n == "e\u{305}".as_bytes())),
-            ("ill-formed", |c| names(c).any(|n| std::str::from_utf8(n).is_err())),
-            ("ASCII beside", |c| in_order(c, |n| n == "README", is_composed)),
-        ],
-    );
-    for (i, c) in all.iter().enumerate() {
-        assert!(entries(c).all(|e| e.key == e.key.formed(c.has_hashed_keys())), "volume {i}");
-    }
 }
 
 fn entries(c: &Contents) -> impl Iterator<Item = &Entry> {

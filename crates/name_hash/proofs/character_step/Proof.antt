@@ -6,12 +6,8 @@ pub character_step_spec : {M : Type 1} → statement M
 character_step_spec =
     tie.close
     (tie.spec
-    (λ c. search by_table)
     (λ c κs. search by_table)
-    (λ c. search by_table)
     (λ c κs. search by_table)
-    (λ c. search by_table)
     (λ c κs. search by_table)
-    (λ c. search by_table)
     (λ c κs. search by_table)
     (λ c. search by_table))

@@ -6,10 +6,10 @@ use Rattle.utf8.proofs.Ascii.{plain, ascii_from}
 use Rattle.utf8.proofs.is_ascii.Statement.{statement}
 use Rattle.utf8.proofs.is_ascii.Tie as tie
 
-abbrev invariant-loop : tie.invariant-loop
+abbrev invariant-loop : tie.invariant-loop-i
 invariant-loop b top₀ i₀ top i = (i ≤ length b) × (ascii_from top (drop i b) ≡ ascii b)
 
-abbrev decreases-loop : tie.decreases-loop
+abbrev decreases-loop : tie.decreases-loop-i
 decreases-loop b top₀ i₀ top i = length b - i
 
 pub is_ascii_spec : {M : Type 1} → statement M

@@ -104,10 +104,10 @@ fn paths_that_lead_nowhere_are_told() {
     for command in ["ls", "stat", "cat", "xattr"] {
         assert_eq!(image.told(&[command], &["rounds/evening.log"]), format!("apfs: FILE: rounds/evening.log: {none}"));
     }
-    let outside = image.told(&["cat"], &["notes/日.txt"]);
+    let other_case = image.told(&["cat"], &["notes/CAFÉ.txt"]);
     assert_eq!(
-        outside,
-        "apfs: FILE: notes/日.txt: a name has a character that is not covered (refusal 9); give each name letter for \
+        other_case,
+        "apfs: FILE: notes/CAFÉ.txt: a name has a character that is not covered (refusal 9); give each name letter for \
          letter as `apfs ls` shows it\n"
     );
     assert_eq!(image.told(&["cat"], &["rounds"]), "apfs: FILE: rounds: a directory; `apfs ls` shows what it holds\n");

@@ -90,20 +90,6 @@ fn files_are_read() {
 }
 
 #[test]
-fn accented_names_are_found_in_other_forms() {
-    let image = sample("forms");
-    for path in ["notes/CAFÉ.txt", "notes/cafe\u{301}.txt", "NOTES/CAFE\u{301}.TXT"] {
-        assert_eq!(out(image.run(&["cat"], &[path])), "The café opens at seven.\n");
-        let stat = out(image.run(&["stat"], &[path]));
-        assert!(stat.lines().any(|l| l == "size             26"), "{stat}");
-    }
-    let none = "there is no such file or directory (refusal 4); `apfs ls` shows what is there\n";
-    for path in ["notes/cafe.txt", "notes/cafe\u{300}.txt"] {
-        assert_eq!(image.told(&["cat"], &[path]), format!("apfs: FILE: {path}: {none}"));
-    }
-}
-
-#[test]
 fn attributes_are_shown_and_read() {
     let image = sample("attributes");
     assert_eq!(

@@ -21,14 +21,6 @@ use crate::image::Image;
 use crate::opening::answer::container;
 
 const WIDTHS: [u64; 3] = [10, 1000, 100_000];
-/// What the names of a directory begin with, and what is typed.
-const FORMS: [(&str, &str, &str); 3] = [
-    ("ASCII", "Jaegerstrasse", "JAEGERSTRASSE"),
-    ("accented", "Jägerstraße", "JA\u{308}GERSTRAßE"),
-    ("Korean", "정문", "\u{110c}\u{1165}\u{11bc}\u{1106}\u{116e}\u{11ab}"),
-];
-const NAMES: u64 = 100_000;
-const NOT_COVERED: i64 = -9;
 const EXTENTS: [u64; 2] = [1, 1000];
 const SIZE: u64 = 1 << 20;
 const PIECE: usize = 1 << 16;
@@ -89,26 +81,6 @@ fn lookup(width: u64, sensitive: bool, port: Option<Port>) -> String {
     timed(&what, contents, &[call], &by_oracle, port)
 }
 
-/// Of the last of so many names that are alike up to their numbers, in another case or form than the stored one.
-fn lookup_last(kind: &str, stored: &str, typed: &str, port: Option<Port>) -> String {
-    let name = |start: &str, i: u64| format!("{start}-{i:06}");
-    let path = name(typed, NAMES - 1);
-    let what = format!("lookup of the last of {NAMES} {kind:8} names, by its key");
-    let contents = large::named(NAMES, &|i| name(stored, i));
-    let call = Call::Lookup { path: path.clone().into() };
-    if port.is_some_and(|port| is_refused(port, &contents, &call)) {
-        return format!("{what}: refused by the port\n");
-    }
-    let by_oracle = |v: &Volume, _: &Call| drop(black_box(v.lookup_path(&path).expect("an inode")));
-    timed(&what, contents, &[call], &by_oracle, port)
-}
-
-/// Before request 07 names in ASCII alone had keys.
-fn is_refused(port: Port, contents: &Contents, call: &Call) -> bool {
-    let image = make(Plan::with_contents(contents.clone(), 5)).image;
-    port(&image, 0, call, &mut [0; PIECE]) == NOT_COVERED
-}
-
 /// Up to the one past the last. The oracle too reads the directory in each call and writes the lines that fit.
 fn entries(width: u64, port: Option<Port>) -> String {
     let contents = large::spread(width, 0);
@@ -146,7 +118,6 @@ fn read(extents: u64, port: Option<Port>) -> String {
 pub fn run(port: Option<Port>) -> String {
     let rules = [true, false].into_iter();
     let lookups = rules.flat_map(|sensitive| WIDTHS.map(|n| lookup(n, sensitive, port)));
-    let last = FORMS.into_iter().map(|(kind, stored, typed)| lookup_last(kind, stored, typed, port));
     let entries = WIDTHS.into_iter().map(|n| entries(n, port));
-    lookups.chain(last).chain(entries).chain(EXTENTS.into_iter().map(|n| read(n, port))).collect()
+    lookups.chain(entries).chain(EXTENTS.into_iter().map(|n| read(n, port))).collect()
 }

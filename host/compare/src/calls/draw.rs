@@ -8,12 +8,9 @@ use crate::calls::call::Call;
 use crate::calls::line;
 use crate::calls::lists::Lists;
 use crate::calls::replaced::{ATTRIBUTE, ENTRY, INODE, LABEL, LINK};
-use crate::forms::{FORMS, NEAR};
 
 const ROOT: u64 = 2;
 const LOOKUPS: usize = 10;
-/// Of the names of a root, so many are looked up in other forms.
-const FORMED: usize = 8;
 const READS: usize = 6;
 const FILES: usize = 2;
 /// Of a longer list only some places are asked for.
@@ -30,18 +27,11 @@ pub fn lookups(c: &Contents, r: &mut Random) -> Vec<Call> {
     (0..LOOKUPS).map(|_| Call::Lookup { path: path(c, r) }).collect()
 }
 
-/// Names of the root that have other forms, in such.
-pub fn in_forms(c: &Contents, r: &mut Random) -> Vec<Call> {
-    let entries = c.file(ROOT).map_or(&[][..], |f| &f.entries);
-    let names = entries.iter().map(|e| contents::text(&e.name)).filter(|name| !name.is_ascii());
-    names.take(FORMED).map(|name| Call::Lookup { path: in_other_form(&name, r).into_bytes() }).collect()
-}
-
 /// One call of each kind, for a volume that may not open.
 pub fn each(r: &mut Random) -> Vec<Call> {
     let (id, place) = (r.pick(&[ROOT, 0, 16, u64::MAX]), r.pick(&[0, 0, 1, u64::MAX]));
     vec![
-        Call::Lookup { path: r.pick(&["", "a", "\\", "日"]).into() },
+        Call::Lookup { path: r.pick(&["", "a", "\\", "é"]).into() },
         Call::Lookup { path: vec![b'a', 0xff] },
         Call::Read { id, offset: place, length: r.place(9) },
         Call::Entry { id, place },
@@ -96,10 +86,6 @@ fn follow(c: &Contents, r: &mut Random) -> Vec<u8> {
 }
 
 fn changed(name: String, r: &mut Random) -> Vec<u8> {
-    // ASCII has no other forms than those below.
-    if !name.is_ascii() && r.chance(2, 3) {
-        return in_other_form(&name, r).into_bytes();
-    }
     let wide = r.pick(&WIDE);
     let other = |c: char| if c.is_ascii_lowercase() { c.to_ascii_uppercase() } else { c.to_ascii_lowercase() };
     let name = match r.below(12) {
@@ -110,15 +96,6 @@ fn changed(name: String, r: &mut Random) -> Vec<u8> {
         _ => name,
     };
     name.into_bytes()
-}
-
-fn in_other_form(name: &str, r: &mut Random) -> String {
-    let form = r.pick(&FORMS)(name);
-    match r.below(4) {
-        0 => r.pick(&FORMS)(&form),
-        1 => r.pick(&NEAR)(&form),
-        _ => form,
-    }
 }
 
 /// Some files of the plan, and ids that are none or hidden by the record's kind.

@@ -7,7 +7,6 @@ use oracle::fs::{DirEntry, Extent, Xattr, XattrData};
 
 use crate::calls::lists::Lists;
 use crate::calls::stream::LONGEST;
-use crate::forms::{covered, decomposed, is_korean};
 
 type Is<T> = (&'static str, fn(&T) -> bool);
 
@@ -31,12 +30,9 @@ const PAIRS: [Is<[Extent]>; 5] = [
     ("no length within another", |w| within(w) && w[1].len == 0),
 ];
 
-const DIRECTORIES: [Is<Vec<DirEntry>>; 7] = [
+const DIRECTORIES: [Is<Vec<DirEntry>>; 4] = [
     ("replaced parts in an entry's name", |d| d.iter().any(|e| replaced(Some(&e.name)))),
-    ("names that are not covered", |d| d.iter().any(|e| !covered(&e.name))),
-    ("accented names", |d| d.iter().any(|e| covered(&e.name) && !e.name.is_ascii() && !is_korean(&e.name))),
-    ("Korean names", |d| d.iter().any(|e| covered(&e.name) && is_korean(&e.name))),
-    ("names that differ in form alone", |d| twice(d, |e| decomposed(&e.name)) && !twice(d, |e| e.name.clone())),
+    ("wide names", |d| d.iter().any(|e| !e.name.is_ascii())),
     ("equal names", |d| twice(d, |e| e.name.clone())),
     ("names that differ in case alone", |d| twice(d, |e| e.name.to_ascii_lowercase()) && !twice(d, |e| e.name.clone())),
 ];

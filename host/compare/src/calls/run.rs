@@ -29,8 +29,6 @@ const DAMAGES: u64 = 4;
 const PATCHED: u64 = 24;
 /// So with directory keys about the edges of their forms.
 const AT_EDGES: u64 = 8;
-/// So with accented and Korean names.
-const ACCENTED: u64 = 6;
 /// Of a damaged superblock's volumes, no more are asked about.
 const VOLUMES: u64 = 5;
 
@@ -84,8 +82,7 @@ impl Run {
             let whole = Stick::from_seed(stick_seed(seed, i));
             let patched = i.is_multiple_of(PATCHED).then(|| make(whole.plan.patched()));
             let at_edges = i.is_multiple_of(AT_EDGES).then(|| make(whole.plan.at_edges()));
-            let accented = i.is_multiple_of(ACCENTED).then(|| make(whole.plan.accented()));
-            let again = patched.iter().chain(&at_edges).chain(&accented).flat_map(|stick| [(stick, 0), (stick, 1)]);
+            let again = patched.iter().chain(&at_edges).flat_map(|stick| [(stick, 0), (stick, 1)]);
             for (n, (stick, k)) in (0..).zip((0..=DAMAGES).map(|k| (&whole, k)).chain(again)) {
                 let of = whole.plan.seed;
                 let image = if k == 0 { stick.image.clone() } else { damaged(&stick.image, of, k) };
@@ -197,7 +194,6 @@ impl Trial<'_> {
         let Ok(Ok(v)) = caught(|| c.volume(i as usize)) else { return self.each(i) };
         let dirs = Directories::of(&v, Rule::Kind);
         let mut calls = draw::lookups(plan, &mut self.random);
-        calls.extend(draw::in_forms(plan, &mut self.random));
         calls.push(self.name());
         for call in calls {
             let want = expected::of_volume(part, c, &dirs, &call);

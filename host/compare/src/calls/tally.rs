@@ -6,7 +6,7 @@ use std::fmt;
 use crate::calls::call::{Call, NAMES};
 use crate::calls::directory::Account;
 use crate::calls::expected::{Answer, Expected, Kind};
-use crate::calls::{names, replaced};
+use crate::calls::replaced;
 
 #[derive(Clone, Debug, Default)]
 pub struct Tally {
@@ -25,7 +25,7 @@ const NO_PARTITION_TABLE: u64 = 11;
 fn wanted(call: &str) -> Vec<Kind> {
     use Kind::{Added, Answered, Refused};
     let (kinds, added): (&[&'static str], &[u64]) = match call {
-        "lookup" => (&names::KINDS, &[5, 8, 9]),
+        "lookup" => (&["root", "exact", "by key"], &[5, 8, 9]),
         "read" => {
             (&["at or past the end", "into no buffer", "zeros alone", "of one extent", "of several extents"], &[2, 8])
         }

@@ -2,7 +2,7 @@
 
 mod checksums;
 mod fields;
-pub mod names;
+mod names;
 mod texts;
 
 use crate::leaf::Case;
@@ -22,9 +22,7 @@ pub fn all(seed: u64, sink: Sink) {
     checksums::short(&mut random, sink);
     checksums::blocks(&mut random, sink);
     names::short(sink);
-    names::each(sink);
     names::drawn(&mut random, sink);
-    names::paired(&mut random, sink);
     names::not_covered(&mut random, sink);
     checksums::unaligned(&mut random, sink);
 }

@@ -189,7 +189,7 @@ fn on(id: u64) -> Vec<Call> {
 
 /// Every call on every id.
 fn calls() -> Vec<Call> {
-    let paths = ["", "data", "DIR/data", "dir/nowhere", "data/x", "link", "é", "日", "none"];
+    let paths = ["", "data", "DIR/data", "dir/nowhere", "data/x", "link", "é", "none"];
     let mut out: Vec<Call> = paths.map(|path| Call::Lookup { path: path.into() }).into();
     out.push(Call::Lookup { path: vec![0xff] });
     out.push(Call::Marked { mark: vec![0; 24] });

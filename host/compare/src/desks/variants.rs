@@ -19,8 +19,6 @@ const LARGEST: usize = 1 << 18;
 const DAMAGES: u64 = 4;
 /// One stick of so many is made once more with directory keys about the edges of their forms.
 const AT_EDGES: u64 = 4;
-/// So with accented and Korean names.
-const ACCENTED: u64 = 4;
 /// One image of so many is in a table.
 const TABLED: u64 = 8;
 /// Of an image, so many numbers of checkpoints.
@@ -49,13 +47,12 @@ pub fn drawn(random: &mut Random) -> Vec<Variant> {
     let mut images: Vec<Vec<u8>> = (1..=DAMAGES).map(|k| damaged(&stick.image, seed, k)).collect();
     images.push(opening::run::damaged(&stick.image, seed, 1));
     let at_edges = random.chance(1, AT_EDGES).then(|| make(stick.plan.at_edges()));
-    let accented = random.chance(1, ACCENTED).then(|| make(stick.plan.accented()));
-    let again: Vec<Stick> = at_edges.into_iter().chain(accented).filter(|made| made.image.len() <= LARGEST).collect();
+    let at_edges = at_edges.filter(|edges| edges.image.len() <= LARGEST);
     let saved = small(random, |plan| plan.saved());
     let spoiled = damaged(&saved.image, seed, 1);
     images.push(stick.image);
     let mut out = variants(stick.plan, images, false, random);
-    out.extend(again.into_iter().flat_map(|made| variants(made.plan, vec![made.image], false, random)));
+    out.extend(at_edges.into_iter().flat_map(|edges| variants(edges.plan, vec![edges.image], false, random)));
     out.extend(variants(saved.plan, vec![spoiled, saved.image], true, random));
     out
 }

@@ -15,8 +15,6 @@ use crate::pairs::{change, layout, mark, planned, questions, Ports};
 const CHANGES: usize = 8;
 /// One stick of so many is made once more with directory keys about the edges of their forms.
 const AT_EDGES: u64 = 4;
-/// So with accented and Korean names.
-const ACCENTED: u64 = 4;
 /// Bytes of the shortest key that the Rust reads.
 const SHORTEST: usize = 12;
 
@@ -49,9 +47,7 @@ impl Run {
                 continue;
             }
             let at_edges = stick.is_multiple_of(AT_EDGES).then(|| make(drawn.plan.at_edges()));
-            let accented = stick.is_multiple_of(ACCENTED).then(|| make(drawn.plan.accented()));
-            let tried =
-                [&drawn].into_iter().chain(&at_edges).chain(&accented).try_for_each(|first| run.stick(first, ports));
+            let tried = [&drawn].into_iter().chain(&at_edges).try_for_each(|first| run.stick(first, ports));
             if let Err((volume, (words, images))) = tried {
                 run.failure = Some(Failure { seed, stick, volume, words, images });
                 return run;

@@ -53,14 +53,6 @@ pub const AT_EDGES: [Group; 1] = [Group {
     of_a_kind: 4,
 }];
 
-pub const ACCENTED: [Group; 1] = [Group {
-    title: "drawn sticks, accented and Korean names",
-    plan: |seed| Plan::draw(seed).accented(),
-    spoil: |image, _| image.to_vec(),
-    rule: Rule::Kind,
-    of_a_kind: 6,
-}];
-
 const fn mixed(title: &'static str, spoil: fn(&[u8], u64) -> Vec<u8>) -> Group {
     Group { title, plan: Plan::mixed, spoil, rule: Rule::Length, of_a_kind: 6 }
 }

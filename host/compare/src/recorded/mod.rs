@@ -1,5 +1,5 @@
 //! A file of calls on sticks with their answers, for replay without any Rust (`crates/cases`): document 01's cases, a
-//! sample of calls on drawn sticks, and the cases of requests 02, 03, 04, 13, 08, 09, 10, 06 and 07. An answer is the oracle's, or
+//! sample of calls on drawn sticks, and the cases of requests 02, 03, 04, 13, 08, 09, 10 and 06. An answer is the oracle's, or
 //! the papers' where the oracle can't tell; never the port's.
 
 pub mod asked;
@@ -24,7 +24,5 @@ pub fn recorded(seed: u64) -> Result<Vec<u8>, String> {
     stated::write(stated::of_measures(), &mut file)?;
     stated::write(stated::of_marks(), &mut file)?;
     stated::write(stated::of_desks(), &mut file)?;
-    stated::write(stated::of_forms(), &mut file)?;
-    drawn::write(seed, &drawn::ACCENTED, &mut file);
     Ok(file.finish())
 }

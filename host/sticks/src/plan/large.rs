@@ -65,17 +65,6 @@ pub fn directories(n: u64) -> Contents {
     contents(files, Vec::new())
 }
 
-/// A root of `n` entries, named by their numbers and in the order of those, each of one file.
-pub fn named(n: u64, name: &dyn Fn(u64) -> String) -> Contents {
-    let empty = |id: u64, kind: u16, entries: Vec<Entry>| File {
-        inode: inode(id, kind, Vec::new()),
-        attributes: Vec::new(),
-        entries,
-    };
-    let entries = (0..n).map(|i| entry(name(i), FILE, REGULAR)).collect();
-    contents(vec![empty(ROOT, DIRECTORY, entries), empty(FILE, REGULAR, Vec::new())], Vec::new())
-}
-
 /// Directories one in the other, `depth` below the root, each entered `times` over.
 pub fn chain(depth: u64, times: u64) -> Contents {
     let directory = |i: u64| {

@@ -1,6 +1,5 @@
 //! What a stick holds, drawn from a seed.
 
-mod accented;
 mod data;
 mod files;
 mod keys;
@@ -127,14 +126,6 @@ impl Plan {
         let mut r = Random::new(self.seed.rotate_left(32));
         let mut plan = self.clone();
         plan.volumes.iter_mut().for_each(|v| v.contents = keys::at_edges(&v.contents, &mut r));
-        plan
-    }
-
-    /// The same stick with accented and Korean names, some of a directory one name in several forms.
-    pub fn accented(&self) -> Plan {
-        let mut r = Random::new(self.seed.rotate_left(48));
-        let mut plan = self.clone();
-        plan.volumes.iter_mut().for_each(|v| v.contents = accented::contents(&v.contents, &mut r));
         plan
     }
 

@@ -21,36 +21,6 @@ const WORDS: [&str; 16] = [
     "~",
 ];
 const WIDE: [&str; 6] = ["é", "É", "Übung", "日本語", "ß", "\u{1f9ed}"];
-/// Rows of one name in several forms, and of others that look much like it.
-const FORMS: [&[&str]; 8] = [
-    &[
-        "Jägerstraße",
-        "Ja\u{308}gerstraße",
-        "JÄGERSTRAßE",
-        "JA\u{308}GERSTRAßE",
-        "jägerstraße",
-        "JÄGERSTRASSE",
-        "Jagerstraße",
-    ],
-    &[
-        "정문",
-        "\u{110c}\u{1165}\u{11bc}\u{1106}\u{116e}\u{11ab}",
-        "저\u{11bc}문",
-        "정\u{1106}\u{116e}\u{11ab}",
-        "저문",
-        "\u{110c}\u{1165}\u{11bc}",
-    ],
-    &["정문 Ä7", "정문 ä7", "\u{110c}\u{1165}\u{11bc}문 A\u{308}7", "정문 A7"],
-    &["İ", "I\u{307}", "i\u{307}", "i", "I", "ı"],
-    &["c\u{327}\u{30c}", "č\u{327}", "ç\u{30c}", "Ç\u{30c}", "C\u{30c}\u{327}", "c\u{30c}\u{30c}"],
-    &["o\u{301}\u{300}", "ó\u{300}", "Ó\u{300}", "o\u{300}\u{301}", "ò\u{301}"],
-    &["\u{301}\u{328}x", "\u{328}\u{301}X", "\u{301}x"],
-    &["Ærø", "ÆRØ", "ærø", "Aerø", "Æro"],
-];
-/// Neither keys nor hashes cover them.
-const OUTSIDE: [&str; 8] =
-    ["日本語", "\u{1f9ed}", "e\u{305}", "\u{212b}", "ΣΑΣ", "STRA\u{1e9e}E", "\u{200}", "\u{d7a4}"];
-const MARKS: [&str; 6] = ["\u{300}", "\u{301}", "\u{30c}", "\u{304}", "\u{327}", "\u{328}"];
 const ILL_FORMED: [&[u8]; 6] = [b"\xff", b"a\x80b", b"\xe2\x82", b"\xed\xa0\x80", b"\xf0\x9f\x92", b"\xc3("];
 
 const TYPED: &str = "\u{fffd}";
@@ -117,36 +87,6 @@ pub fn any(r: &mut Random) -> Vec<u8> {
         }
         _ => plain(r),
     }
-}
-
-/// One name in several forms.
-pub type Row = &'static [&'static str];
-
-pub fn row(r: &mut Random) -> Row {
-    r.pick(&FORMS)
-}
-
-/// One of the row, of another, or a letter under many marks.
-pub fn accented(row: Row, r: &mut Random) -> Vec<u8> {
-    match r.below(8) {
-        0..=4 => r.pick(row).into(),
-        5 | 6 => {
-            let other = self::row(r);
-            r.pick(other).into()
-        }
-        _ => {
-            let marks = (0..r.between(1, 40)).map(|_| r.pick(&MARKS)).collect::<String>();
-            [r.pick(&["", "o", "O", "é", "문"]), &marks, r.pick(&["", "b"])].concat().into()
-        }
-    }
-}
-
-/// A name that is not covered, for a character outside or for bytes that are none.
-pub fn uncovered(r: &mut Random) -> Vec<u8> {
-    if r.chance(1, 3) {
-        return [&plain(r)[..1], r.pick(&ILL_FORMED)].concat();
-    }
-    r.pick(&OUTSIDE).into()
 }
 
 /// A name that reads with U+FFFD in it for bytes that are no UTF-8, for one that was typed, for both, or for neither.

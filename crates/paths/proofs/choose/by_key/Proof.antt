@@ -9,9 +9,7 @@ by_key_spec =
     tie.close
     (tie.spec
     (λ c κs. search rules)
-    (λ c. search rules)
-    (λ c. search rules)
-    (λ c. search rules)
     (λ c. search (all, weighing))
+    (λ c κs. search rules)
     (λ c. search (all, weighing))
     (λ c. search (all, weighing)))

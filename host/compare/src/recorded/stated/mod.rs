@@ -1,10 +1,9 @@
 //! Document 01's cases and those of partition tables, patched names, directory keys, checkpoints, wrong words, a
-//! listing's totals and its measure, bookmarks, desks and accented names, each with what the papers say of it, and small sticks that show
+//! listing's totals and its measure, bookmarks and desks, each with what the papers say of it, and small sticks that show
 //! them.
 
 mod checkpoints;
 mod desks;
-mod forms;
 mod keys;
 mod listed;
 mod listing;
@@ -200,11 +199,6 @@ pub fn of_marks() -> Vec<Group> {
 /// Those of request 06.
 pub fn of_desks() -> Vec<Group> {
     [nodes::groups(), listed::groups(), desks::groups()].into_iter().flatten().collect()
-}
-
-/// Those of request 07.
-pub fn of_forms() -> Vec<Group> {
-    forms::groups()
 }
 
 /// An error tells each case that the oracle answers otherwise.

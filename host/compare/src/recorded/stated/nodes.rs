@@ -116,8 +116,7 @@ fn refused() -> Group {
     let cases = vec![
         nodes(not_utf8, OPENED, Refused(5)),
         lookup("dir/nowhere", IN_ROOT + INODE + list(1), Refused(4)),
-        lookup("日", IN_ROOT, Refused(9)),
-        lookup("é", IN_ROOT, Refused(4)),
+        lookup("é", IN_ROOT, Refused(9)),
         on(what::READ, PACKED, 0, OPENED + INODE, Refused(3)).into_room(10),
         on(what::READ, ABSENT, 0, OPENED + list(0), Refused(4)).into_room(10),
         on(what::LINK, ROOT, 0, OPENED + ROOT_INODE + list(3), Refused(2)),

@@ -1,7 +1,6 @@
 //! A port's calls on a volume, with one mistake or none.
 
 mod files;
-mod keys;
 pub mod list;
 pub mod marks;
 pub mod measure;

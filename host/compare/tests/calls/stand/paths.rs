@@ -24,7 +24,7 @@ impl Stand<'_> {
     fn find(&self, entries: &[Entry], part: &str) -> Answer<u64> {
         let exact = entries.iter().find(|e| e.name == part).map(|e| e.id);
         if self.has(M::NineBeforeExact) && self.insensitive() {
-            test(self.covers(part), 9)?;
+            test(part.is_ascii(), 9)?;
         }
         match exact {
             Some(id) if !self.has(M::KeyFirst) => Ok(id),
@@ -39,8 +39,10 @@ impl Stand<'_> {
     }
 
     fn by_key(&self, entries: &[Entry], part: &str) -> Answer<u64> {
+        let fold = self.v.name_rule().case_insensitive && !self.has(M::CaseKept) || self.has(M::CaseIgnored);
+        let key = |name: &str| if fold { name.to_lowercase() } else { name.to_string() };
         let nine = if self.has(M::NineAsAbsent) { 4 } else { 9 };
-        let fine = |name: &str| self.covers(name) || !self.insensitive();
+        let fine = |name: &str| name.is_ascii() || !self.insensitive();
         let late = self.has(M::NineAfterEntries) && entries.is_empty();
         test(fine(part) || late, nine)?;
         if self.has(M::NineBeyondMatch) {
@@ -48,7 +50,7 @@ impl Stand<'_> {
         }
         for e in entries {
             test(fine(&e.name), nine)?;
-            if self.key(&e.name) == self.key(part) {
+            if key(&e.name) == key(part) {
                 return Ok(e.id);
             }
         }

@@ -1,0 +1,34 @@
+use Prim.Native.Nat.{◌-◌}
+use mathlib.Core.Path.{◌≡◌}
+use lib.ListN.{length, drop}
+use Rattle.paths.specs.Names.{same_keys}
+use Rattle.paths.proofs.Laws.{all}
+use Rattle.paths.proofs.Keys.{key_lengths, key_done, key_stops, key_goes}
+use Rattle.paths.proofs.compare.same_key.Statement.{statement}
+use Rattle.paths.proofs.compare.same_key.Tie as tie
+
+abbrev invariant-loop : tie.invariant-loop
+invariant-loop rule a b i₀ i = (length a ≡ length b) × (same_keys rule.case_insensitive rule.normalization_insensitive (drop i a) (drop i b) ≡ same_keys rule.case_insensitive rule.normalization_insensitive a b)
+
+abbrev decreases-loop : tie.decreases-loop
+decreases-loop rule a b i₀ i = length a - i
+
+ruleset turns = (all, key_lengths, key_done, key_stops, key_goes)
+
+pub same_key_spec : {M : Type 1} → statement M
+same_key_spec =
+    tie.close
+    (tie.spec
+    invariant-loop
+    decreases-loop
+    (λ c. search turns)
+    (λ c. search turns)
+    (λ c. search turns)
+    (λ c κs. search turns)
+    (λ c. search turns)
+    (λ c κs. search turns)
+    (λ c. search turns)
+    (λ c. search turns)
+    (λ c. search turns)
+    (λ c. (search turns, key_goes _ _ _ _ c.before.before.before.before.before.before.loop.invariant.0 _ _ c.before.before.before.before.before.before.loop.invariant.1 c.before.before.before.before.before.loop-test.true _ _ c.before.before.before.fold.ensures c.before.fold2.ensures c.if2.false))
+    (λ c. search turns))
