@@ -1,7 +1,7 @@
 // How many calls agree: under each title, and by export and refusal.
 use crate::record::Record;
 
-#[derive(Drop)]
+#[derive(Clone, Copy)]
 pub struct Tally {
     // Whether a title stands printed, its counts still to come.
     pub titled: bool,

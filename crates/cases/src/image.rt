@@ -5,7 +5,7 @@ use byte_fields::{Span, part};
 use text::{Position, clear, put_all};
 
 // Where the part at `from` of the parts ends, and where the image goes on behind it.
-#[derive(Drop)]
+#[derive(Clone, Copy)]
 struct Laid {
     from: usize,
     to: usize,

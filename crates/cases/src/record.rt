@@ -5,7 +5,7 @@ use byte_fields::Number;
 
 const HEAD: usize = 42;
 
-#[derive(Drop)]
+#[derive(Clone, Copy)]
 pub struct Record {
     pub op: u8,
     // 0 where the call is answered.

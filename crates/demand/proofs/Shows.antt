@@ -1,10 +1,10 @@
 -- A listing that was not refused is the text of a tree that its volume shows.
-use Prim.Native.Nat.{ℕ, zero, suc, ◌≤◌, ◌<◌}
+use Prim.Native.Nat.{zero-le, ℕ, zero, suc, ◌≤◌, ◌<◌}
 use mathlib.Core.Path.{◌≡◌, refl, sym, ap, subst, ◌∙◌}
 use mathlib.Core.Bool.{Bool, true, false}
 use mathlib.Core.List.{List, [], ◌∷◌, ◌++◌, map, append_assoc, append-nil}
 use native.Mathlib.Omega.{arith}
-use borrow.Author.Rules.{zero≤}
+
 use Rattle.error.specs.Answer.{Answer, got, no, pick}
 use Rattle.error.specs.declared.Refusal.{Refusal}
 use Rattle.error.specs.declared.Refusal.TheVariants.{TooDeep}
@@ -106,7 +106,7 @@ record Forms (v : View) (d : ℕ) (es : List EntryShown) (s : List ℕ) : Type 0
 entries_done : (v : View) (d : ℕ) (form : ℕ → Trace) → ((i : ℕ) (s : List ℕ) → form i ≡ says s → TreeOf v d i s) → (es : List EntryShown) {s r : List ℕ} → entry_forms form es ≡ says s
     → Writes close r → Forms v d es (s ++ r)
 unfolding entry_forms
-entries_done v d form all [] {r = r} h w = record { list = none; those = refl; shows = tt; low = zero≤; text = moved w (ap (λ z. z.text ++ r) h) }
+entries_done v d form all [] {r = r} h w = record { list = none; those = refl; shows = tt; low = zero-le; text = moved w (ap (λ z. z.text ++ r) h) }
 entries_done v d form all (e ∷ es) {r = r} h w =
     then_done _ _ h λ a b ha hb p.
     then_done _ _ hb λ c k hc hk q.

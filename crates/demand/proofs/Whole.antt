@@ -1,10 +1,10 @@
 -- Whole lines: what the parts of a listing count for, each by itself and whatever follows it; and no count passes the length of its text.
-use Prim.Native.Nat.{ℕ, suc, ◌+◌, ◌-◌, ◌/◌, ◌≤◌}
+use Prim.Native.Nat.{zero-le, ℕ, suc, ◌+◌, ◌-◌, ◌/◌, ◌≤◌}
 use mathlib.Core.Path.{◌≡◌, refl, sym, ap, ◌∙◌}
 use mathlib.Core.Bool.{Bool, true, false}
 use mathlib.Core.List.{List, [], ◌∷◌, ◌++◌, append_assoc, append-nil}
 use native.Mathlib.Omega.{arith}
-use borrow.Author.Rules.{rules, zero≤}
+use borrow.Author.Rules.{rules}
 use lib.ListN.{length}
 use Rattle.error.specs.Answer.{Answer, got, no, pick}
 use Rattle.error.proofs.Laws.{eq_cases}
@@ -149,7 +149,7 @@ longer_length c (l ∷ ls) = omega arith
 
 lines_length : (x : List ℕ) → lengths (lines_of x) ≤ length x
 unfolding lines_of
-lines_length [] = zero≤
+lines_length [] = zero-le
 lines_length (c ∷ x) =
     let h = lines_length x in eq_cases (λ ls. lengths ls ≤ suc (length x)) (λ e. omega arith) (λ e. omega (arith, longer_length c (lines_of x)))
 

@@ -1,5 +1,5 @@
 -- Names compared by their keys, and what the lossy reading of an ASCII name is.
-use Prim.Native.Nat.{ℕ, zero, suc, ◌+◌, ◌≤◌, ◌<◌}
+use Prim.Native.Nat.{zero-le, ℕ, zero, suc, ◌+◌, ◌≤◌, ◌<◌}
 use mathlib.Core.Path.{◌≡◌, refl, sym, ap, ◌∙◌}
 use mathlib.Core.Bool.{Bool, true, false}
 use mathlib.Core.List.{List, [], ◌∷◌, ◌++◌}
@@ -8,7 +8,7 @@ use lib.Seq.{drop-cons}
 use native.Mathlib.Omega.{arith}
 use native.Mathlib.Numerals.{add-one}
 use Rattle.error.specs.Answer.{if_le}
-use borrow.Author.Rules.{zero≤}
+
 use Rattle.error.proofs.Laws.{at_most_lem, above, same, other, le_cases}
 use Rattle.utf8.specs.Text.{same_bytes, rest_of, piece_of, size_of, shown, lossy}
 use Rattle.utf8.specs.declared.Piece.{Piece}
@@ -68,7 +68,7 @@ module _ (c n : Bool) (a b : List ℕ) where
 -- an ASCII character is a piece of its own
 ascii_piece : (x : ℕ) (b : List ℕ) → x ≤ 127 → piece_of (x ∷ b) ≡ WellFormed 1
 unfolding piece_of rest_of
-ascii_piece x b h = rw (← inside x 0 127 _ _ _ zero≤ h refl) (sym (one_byte_lem b))
+ascii_piece x b h = rw (← inside x 0 127 _ _ _ zero-le h refl) (sym (one_byte_lem b))
 
 ascii_first : (x : ℕ) (b : List ℕ) → x ≤ 127 → lossy (x ∷ b) ≡ x ∷ lossy b
 ascii_first x b h = rw (lossy_next (x ∷ b), ascii_piece x b h)

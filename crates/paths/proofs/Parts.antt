@@ -1,5 +1,5 @@
 -- The parts of a path from a place on, as a loop over the path finds them.
-use Prim.Native.Nat.{ℕ, zero, suc, ◌+◌, ◌-◌, ◌≤◌, ◌<◌}
+use Prim.Native.Nat.{zero-le, ℕ, zero, suc, ◌+◌, ◌-◌, ◌≤◌, ◌<◌}
 use mathlib.Core.Path.{◌≡◌, refl, sym, ap, ◌∙◌}
 use mathlib.Core.Bool.{Bool, true, false, not, beq}
 use mathlib.Core.List.{List, [], ◌∷◌}
@@ -7,7 +7,7 @@ use lib.ListN.{length, get_or, take, drop, length-drop, drop_of_length-le}
 use lib.Seq.{drop-cons, drop-drop}
 use native.Mathlib.Omega.{arith}
 use native.Mathlib.Numerals.{add-one}
-use borrow.Author.Rules.{zero≤}
+
 use borrow.Author.Tests.{not-true, not-false}
 use Rattle.error.specs.Answer.{pick, if_eq}
 use Rattle.error.proofs.Laws.{eq_cases}
@@ -37,12 +37,12 @@ module _ (x : List ℕ) (d : Bool) (i whole : ℕ) (p : i + leading d (drop i x)
 
 pub leading_le : (d : Bool) (x : List ℕ) → leading d x ≤ length x
 unfolding leading
-leading_le d [] = zero≤
+leading_le d [] = zero-le
 leading_le d (b ∷ x) = of (leading_le d x) (beq (is_separator b) d)
   where
     of : leading d x ≤ length x → (t : Bool) → pick t (suc (leading d x)) 0 ≤ suc (length x)
     of h true = omega arith
-    of h false = zero≤
+    of h false = zero-le
 
 -- none is left after those that were passed
 leading_after : (d : Bool) (x : List ℕ) → leading d (drop (leading d x) x) ≡ 0

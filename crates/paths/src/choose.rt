@@ -12,7 +12,7 @@ use volume::{NameRule, insensitive};
 
 // What is known before the next entry: nothing, the entry of exactly that name, or what the keys say, should no later
 // name be exactly equal.
-#[derive(Drop)]
+#[derive(Clone, Copy)]
 pub enum Choice {
     Open,
     Exact(Entry),

@@ -1,4 +1,5 @@
 // Looking a path up in a volume (fs.rs, `lookup_path` and `NameRule`).
+#![tactic(auto)]
 mod choose;
 mod compare;
 mod split;

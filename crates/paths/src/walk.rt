@@ -15,7 +15,7 @@ use utf8::is_utf8;
 use volume::{Volume, name_rule};
 
 // An entry, and the nodes gone through.
-#[derive(Drop)]
+#[derive(Clone, Copy)]
 pub struct EntryChosen {
     pub entry: EntryRead,
     pub nodes: u64,

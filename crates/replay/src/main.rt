@@ -2,12 +2,13 @@
 //
 // A record is its op (1 byte), a, b and the expected answer (8 bytes each), the input's length (4), the input; numbers are
 // little-endian. Op 0 ends the file.
+#![tactic(auto)]
 use byte_fields::Number;
 
 const HEAD: usize = 29;
 
 // A record's numbers, and where its input lies in the file.
-#[derive(Drop)]
+#[derive(Clone, Copy)]
 struct Record {
     op: u8,
     a: u64,
@@ -17,7 +18,7 @@ struct Record {
     end: usize,
 }
 
-#[derive(Drop)]
+#[derive(Clone, Copy)]
 enum Step {
     Record(Record),
     End,
@@ -25,7 +26,7 @@ enum Step {
     Broken,
 }
 
-#[derive(Drop)]
+#[derive(Clone, Copy)]
 struct Tally {
     agree: u64,
     differ: u64,

@@ -5,10 +5,10 @@ use Rattle.names.proofs.Laws.{names}
 use Rattle.names.proofs.plain.Statement.{statement}
 use Rattle.names.proofs.plain.Tie as tie
 
-abbrev invariant-loop : tie.invariant-loop
+abbrev invariant-loop : tie.invariant-loop-n
 invariant-loop b n₀ n = (n ≤ length b) × Passed b n
 
-abbrev decreases-loop : tie.decreases-loop
+abbrev decreases-loop : tie.decreases-loop-n
 decreases-loop b n₀ n = length b - n
 
 pub plain_spec : {M : Type 1} → statement M

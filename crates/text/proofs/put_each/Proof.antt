@@ -9,10 +9,10 @@ use Rattle.text.proofs.Loops.{bytes_end, bytes_next}
 use Rattle.text.proofs.put_each.Statement.{statement}
 use Rattle.text.proofs.put_each.Tie as tie
 
-abbrev invariant-loop : tie.invariant-loop
+abbrev invariant-loop : tie.invariant-loop-i
 invariant-loop out₀ room text q₀ i₀ out q i = (i ≤ length text) × (puts room (drop i text) (output_of q out) ≡ puts room text (output_of q₀ out₀)) × (length out ≡ length out₀)
 
-abbrev decreases-loop : tie.decreases-loop
+abbrev decreases-loop : tie.decreases-loop-i
 decreases-loop out₀ room text q₀ i₀ out q i = length text - i
 
 ruleset all = (rules, stopped, bytes_end, bytes_next)

@@ -12,10 +12,10 @@ use Rattle.text.proofs.Loops.{pairs_end, pairs_next}
 use Rattle.text.proofs.put_each_hex.Statement.{statement}
 use Rattle.text.proofs.put_each_hex.Tie as tie
 
-abbrev invariant-loop : tie.invariant-loop
+abbrev invariant-loop : tie.invariant-loop-i
 invariant-loop out₀ room b q₀ i₀ out q i = (i ≤ length b) × (puts room (pairs (drop i b) []) (output_of q out) ≡ puts room (pairs b []) (output_of q₀ out₀)) × (length out ≡ length out₀)
 
-abbrev decreases-loop : tie.decreases-loop
+abbrev decreases-loop : tie.decreases-loop-i
 decreases-loop out₀ room b q₀ i₀ out q i = length b - i
 
 ruleset all = (rules, stopped, pairs_end, pairs_next)
@@ -32,7 +32,7 @@ put_each_hex_spec =
     (λ c. search all)
     (λ c. search all)
     (λ c. search all)
-    (λ c κs. omega (arith, c.before.shared-slice-known2.given c.before.before.before.before.before.loop.i))
+    (λ c κs. omega (arith, c.shared_slice_known-in-At-1.given c.loop-i.i))
     (λ c κs. search all)
     (λ c κs. search all)
     (λ c κs. search all)

@@ -6,10 +6,10 @@ use Rattle.text.proofs.Loops.{Storing, store_start, store_next, store_end}
 use Rattle.text.proofs.write_all.Statement.{statement}
 use Rattle.text.proofs.write_all.Tie as tie
 
-abbrev invariant-loop : tie.invariant-loop
+abbrev invariant-loop : tie.invariant-loop-i
 invariant-loop out₀ at text i₀ out i = (i ≤ length text) × Storing text out₀ at out i × (length out ≡ length out₀)
 
-abbrev decreases-loop : tie.decreases-loop
+abbrev decreases-loop : tie.decreases-loop-i
 decreases-loop out₀ at text i₀ out i = length text - i
 
 ruleset all = (rules, store_start, store_next, store_end)

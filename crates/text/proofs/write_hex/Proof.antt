@@ -7,10 +7,10 @@ use Rattle.text.proofs.Loops.{Hexed, hex_start, hex_next, hex_end, second_lies}
 use Rattle.text.proofs.write_hex.Statement.{statement}
 use Rattle.text.proofs.write_hex.Tie as tie
 
-abbrev invariant-loop : tie.invariant-loop
+abbrev invariant-loop : tie.invariant-loop-i
 invariant-loop out₀ at b i₀ out i = (i ≤ length b) × Hexed b out₀ at out i × (length out ≡ length out₀)
 
-abbrev decreases-loop : tie.decreases-loop
+abbrev decreases-loop : tie.decreases-loop-i
 decreases-loop out₀ at b i₀ out i = length b - i
 
 ruleset all = (rules, hex_start, hex_next, hex_end, second_lies)
@@ -23,11 +23,11 @@ write_hex_spec =
     decreases-loop
     (λ c. search all)
     (λ c. search all)
-    (λ c κs. omega (arith, c.shared-slice-known2.given c.before.before.loop.i))
+    (λ c κs. omega (arith, c.shared_slice_known-in-loop-i-1.given c.loop-i.i))
     (λ c. search all)
     (λ c. search all)
     (λ c. search all)
-    (λ c κs. omega (arith, c.before.shared-slice-known2.given c.before.before.before.loop.i))
+    (λ c κs. omega (arith, c.shared_slice_known-in-loop-i-1.given c.loop-i.i))
     (λ c. search all)
     (λ c. search all)
     (λ c. search all)
