@@ -2,7 +2,7 @@ pub mod Asked
 pub mod Laws
 pub mod Ring
 pub mod Candidate
-pub mod Choice
+pub mod Choosing
 pub mod Latest
 pub mod Numbered
 pub mod NumberTurns

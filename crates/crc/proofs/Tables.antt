@@ -24,8 +24,8 @@ module _ (p : ℕ) where
   word (x ∷ xs) i zero t h = rw add-zero (eqb→eq x (shifts p 8 i) (and_l (eqb x (shifts p 8 i)) (words (suc i) xs) t))
   word (x ∷ xs) i (suc k) t h = rw (add-suc, ← suc-add) (word xs (suc i) k (and_r (eqb x (shifts p 8 i)) (words (suc i) xs) t) (le_of_suc-le-suc h))
 
-  pub table_rule_lem : (ws : List ℕ) → T (words 0 ws) → T (leb 256 (length ws)) → TableRule p ws
-  table_rule_lem ws t h = record { long = leb→le 256 (length ws) h; word = λ i k. word ws 0 i t (omega (arith, leb→le 256 (length ws) h)) ∙ rw (zero-add i) }
+  pub table_rule : (ws : List ℕ) → T (words 0 ws) → T (leb 256 (length ws)) → TableRule p ws
+  table_rule ws t h = record { long = leb→le 256 (length ws) h; word = λ i k. word ws 0 i t (omega (arith, leb→le 256 (length ws) h)) ∙ rw (zero-add i) }
 
   module _ (ws : List ℕ) (rule : TableRule p ws) where
     pub step_by_lem : (c x : ℕ) → step_by ws c x ≡ shifts p 8 (bit_xor c x)

@@ -10,4 +10,4 @@ pub keys_by_rule : (v : Volume) (rule : NameRule) (d : Bool) → rule ≡ rule_o
 unfolding hashed_keys
 keys_by_rule v rule d e h = rw e at h
 
-pub ruleset rules = (rules, keys_by_rule)
+pub ruleset by_rule = (rules, keys_by_rule)

@@ -8,10 +8,10 @@ use Rattle.name_hash.proofs.Laws.{all, hash_from, hash_start, hash_goes, hash_st
 use Rattle.name_hash.proofs.hash_by.Statement.{statement}
 use Rattle.name_hash.proofs.hash_by.Tie as tie
 
-abbrev invariant-loop : tie.invariant-loop
+abbrev invariant-loop : tie.invariant-loop-i
 invariant-loop words name insensitive c₀ i₀ c i = TableRule castagnoli words × (i ≤ length name) × (hash_from insensitive c (drop i name) ≡ name_hash insensitive name)
 
-abbrev decreases-loop : tie.decreases-loop
+abbrev decreases-loop : tie.decreases-loop-i
 decreases-loop words name insensitive c₀ i₀ c i = length name - i
 
 ruleset hashes = (all, hash_start, hash_goes, hash_stops, hash_done)

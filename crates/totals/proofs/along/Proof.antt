@@ -8,10 +8,10 @@ use Rattle.totals.proofs.Turns.{along_next}
 use Rattle.totals.proofs.along.Statement.{statement}
 use Rattle.totals.proofs.along.Tie as tie
 
-abbrev invariant-loop : tie.invariant-loop
+abbrev invariant-loop : tie.invariant-loop-i
 invariant-loop text at i₀ i = i + line_length (drop i text) ≡ at + line_length (drop at text)
 
-abbrev decreases-loop : tie.decreases-loop
+abbrev decreases-loop : tie.decreases-loop-i
 decreases-loop text at i₀ i = length text - i
 
 ruleset all = (rules, refl)
@@ -33,5 +33,5 @@ along_spec =
     (λ c. search all)
     (λ c. search all)
     (λ c. search all)
-    (λ c. along_next c.before.before.before.before.before.before.before.args.text.now _ _ c.before.before.before.before.before.loop.invariant c.before.before.before.before.loop-test.true c.before.before.before.if1.false _ c.before.has-lf.ensures c.if2.false)
+    (λ c. along_next c.args.text.now _ _ c.loop-i.invariant c.loop-i-test.true c.if-text-i-lt64.false _ c.has_lf.ensures c.if-has_lf.false)
     (λ c. search all))

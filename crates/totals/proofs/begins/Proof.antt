@@ -8,10 +8,10 @@ use Rattle.totals.proofs.Turns.{begins_done, begins_short, begins_stops, begins_
 use Rattle.totals.proofs.begins.Statement.{statement}
 use Rattle.totals.proofs.begins.Tie as tie
 
-abbrev invariant-loop : tie.invariant-loop
+abbrev invariant-loop : tie.invariant-loop-i
 invariant-loop line start i₀ i = begins (drop i start) (drop i line) ≡ begins start line
 
-abbrev decreases-loop : tie.decreases-loop
+abbrev decreases-loop : tie.decreases-loop-i
 decreases-loop line start i₀ i = length start - i
 
 ruleset all = (rules, refl, begins_done, begins_short, begins_stops, begins_goes)

@@ -8,10 +8,10 @@ use Rattle.totals.proofs.Turns.{end_over, end_here, end_later}
 use Rattle.totals.proofs.line_end.Statement.{statement}
 use Rattle.totals.proofs.line_end.Tie as tie
 
-abbrev invariant-loop : tie.invariant-loop
+abbrev invariant-loop : tie.invariant-loop-i
 invariant-loop text at i₀ i = i + line_length (drop i text) ≡ at + line_length (drop at text)
 
-abbrev decreases-loop : tie.decreases-loop
+abbrev decreases-loop : tie.decreases-loop-i
 decreases-loop text at i₀ i = length text - i
 
 ruleset all = (rules, end_over, end_here, end_later)

@@ -8,13 +8,10 @@ pub line_totals_spec : {M : Type 1} → statement M
 line_totals_spec =
     tie.close
     (tie.spec
-    (λ c. search rules)
     (λ c κs. search rules)
     (λ c. search by_start)
-    (λ c. search rules)
     (λ c κs. search rules)
     (λ c. search by_start)
-    (λ c. search rules)
     (λ c κs. search rules)
     (λ c. search by_start)
     (λ c. search by_start)

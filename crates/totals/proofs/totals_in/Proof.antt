@@ -8,10 +8,10 @@ use Rattle.totals.proofs.Turns.{Few, few_none, totals_start, totals_over, end_af
 use Rattle.totals.proofs.totals_in.Statement.{statement}
 use Rattle.totals.proofs.totals_in.Tie as tie
 
-abbrev invariant-loop : tie.invariant-loop
+abbrev invariant-loop : tie.invariant-loop-at
 invariant-loop text t₀ at₀ t at = (plus t (totals_of (drop at text)) ≡ totals_of text) × Few at t
 
-abbrev decreases-loop : tie.decreases-loop
+abbrev decreases-loop : tie.decreases-loop-at
 decreases-loop text t₀ at₀ t at = length text - at
 
 ruleset all = (rules, totals_over, end_after, end_within, end_fits, end_less, few_next, nodes_fit, bytes_fit, attrs_fit, totals_next)

@@ -5,10 +5,10 @@ use Rattle.btree.proofs.Leaves.{inside}
 use Rattle.btree.proofs.leaf.in_leaf.Statement.{statement}
 use Rattle.btree.proofs.leaf.in_leaf.Tie as tie
 
-abbrev invariant-loop : tie.invariant-loop
+abbrev invariant-loop : tie.invariant-loop-i
 invariant-loop b node info id kind from i₀ i = in_leaf b node info id kind (node.nkeys - i) i ≡ in_leaf b node info id kind (node.nkeys - from) from
 
-abbrev decreases-loop : tie.decreases-loop
+abbrev decreases-loop : tie.decreases-loop-i
 decreases-loop b node info id kind from i₀ i = node.nkeys - i
 
 pub in_leaf_spec : {M : Type 1} → statement M

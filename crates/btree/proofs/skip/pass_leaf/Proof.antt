@@ -10,4 +10,4 @@ pass_leaf_spec =
     (tie.spec
     (λ c κs. search rules)
     (λ c κs. search (rules, block_under))
-    (λ c. λ s k. c.pass-in.ensures _ _ refl c.before.block.ensures s k))
+    (λ c. λ s k. c.pass_in.ensures _ _ refl c.block.ensures s k))

@@ -1,5 +1,5 @@
 use borrow.Author.Rules.{rules}
-use Rattle.checkpoints.proofs.Choice.{blocks}
+use Rattle.checkpoints.proofs.Choosing.{blocks}
 use Rattle.checkpoints.proofs.accepted.block_place.Statement.{statement}
 use Rattle.checkpoints.proofs.accepted.block_place.Tie as tie
 

@@ -1,5 +1,5 @@
 use borrow.Author.Rules.{rules}
-use Rattle.checkpoints.proofs.Choice.{choices}
+use Rattle.checkpoints.proofs.Choosing.{choices}
 use Rattle.checkpoints.proofs.checkpoint.consider.Statement.{statement}
 use Rattle.checkpoints.proofs.checkpoint.consider.Tie as tie
 

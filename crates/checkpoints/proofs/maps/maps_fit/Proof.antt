@@ -6,10 +6,10 @@ use Rattle.checkpoints.proofs.Ring.{rings}
 use Rattle.checkpoints.proofs.maps.maps_fit.Statement.{statement}
 use Rattle.checkpoints.proofs.maps.maps_fit.Tie as tie
 
-abbrev invariant-loop : tie.invariant-loop
+abbrev invariant-loop : tie.invariant-loop-k
 invariant-loop reader image d xid ring n k₀ k = maps_from reader image d xid ring (n - k) k ≡ maps_fit reader image d xid ring
 
-abbrev decreases-loop : tie.decreases-loop
+abbrev decreases-loop : tie.decreases-loop-k
 decreases-loop reader image d xid ring n k₀ k = n - k
 
 pub maps_fit_spec : {M : Type 1} → statement M

@@ -10,7 +10,7 @@ leaf_from_spec =
     (tie.spec
     (λ c κs. search rules)
     (λ c. search rules)
-    (λ c. omega (arith, after_some _ c.before.before.before.before.before.args.q _ _ _ _ _ c.before.before.before.next-in.ensures c.before.after.given.1))
+    (λ c. omega (arith, after_some _ c.args.q _ _ _ _ _ c.next_in.ensures c.in-At.is))
     (λ c κs. search rules)
     (λ c. search rules)
     (λ c κs. search rules)

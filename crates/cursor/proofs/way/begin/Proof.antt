@@ -9,5 +9,5 @@ begin_spec =
     (tie.spec
     (λ c κs. search rules)
     (λ c. search rules)
-    (λ c κs. leads_low _ _ _ _ c.before.before.before.before.requires (search rules))
+    (λ c κs. leads_low _ _ _ _ c.requires (search rules))
     (λ c. search (rules, leads_own)))

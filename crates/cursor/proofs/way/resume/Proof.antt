@@ -15,5 +15,5 @@ resume_spec =
     (λ c κs. search rules)
     (λ c κs. search rules)
     (λ c. search (rules, kinded_first))
-    (λ c κs. higher_low _ _ _ _ c.before.before.before.before.before.before.before.before.before.before.requires (search rules) _ _ c.before.before.before.before.before.before.before.with-kind.ensures)
-    (λ c. leads_higher _ _ _ _ c.before.before.before.before.before.before.before.before.before.before.before.requires (search rules) _ _ c.before.before.before.before.before.before.before.before.with-kind.ensures _ _ (search rules) c.before.before.Stays-on.ensures (search rules) c.begin-at.ensures))
+    (λ c κs. higher_low _ _ _ _ c.requires (search rules) _ _ c.with_kind-higher.ensures)
+    (λ c. leads_higher _ _ _ _ c.requires (search rules) _ _ c.with_kind-higher.ensures _ _ (search rules) c.stays_on.ensures (search rules) c.begin_at.ensures))

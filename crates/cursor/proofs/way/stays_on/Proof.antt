@@ -5,10 +5,10 @@ use Rattle.cursor.proofs.Ways.{levelling}
 use Rattle.cursor.proofs.way.stays_on.Statement.{statement}
 use Rattle.cursor.proofs.way.stays_on.Tie as tie
 
-abbrev invariant-loop : tie.invariant-loop
+abbrev invariant-loop : tie.invariant-loop-l
 invariant-loop image q c level top l₀ l = stays_on image q c l ≡ stays_on image q c level
 
-abbrev decreases-loop : tie.decreases-loop
+abbrev decreases-loop : tie.decreases-loop-l
 decreases-loop image q c level top l₀ l = top - l
 
 pub stays_on_spec : {M : Type 1} → statement M

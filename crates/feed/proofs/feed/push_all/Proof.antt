@@ -7,10 +7,10 @@ use Rattle.feed.proofs.Feeding.{all}
 use Rattle.feed.proofs.feed.push_all.Statement.{statement}
 use Rattle.feed.proofs.feed.push_all.Tie as tie
 
-abbrev invariant-loop : tie.invariant-loop
+abbrev invariant-loop : tie.invariant-loop-i
 invariant-loop out₀ room bytes g₀ i₀ out g i = (i ≤ length bytes) × ((xs : List ℕ) → fed room g out (drop i bytes ++ xs) ≡ fed room g₀ out₀ (bytes ++ xs)) × (length out ≡ length out₀)
 
-abbrev decreases-loop : tie.decreases-loop
+abbrev decreases-loop : tie.decreases-loop-i
 decreases-loop out₀ room bytes g₀ i₀ out g i = length bytes - i
 
 pub push_all_spec : {M : Type 1} → statement M
@@ -21,15 +21,15 @@ push_all_spec =
     decreases-loop
     (λ c. (search all, λ xs. refl, search all))
     (λ c. search all)
-    (λ c. λ xs. let p = c.before.before.loop.invariant.1 xs in search all)
+    (λ c. λ xs. let p = c.loop-i.invariant.1 xs in search all)
     (λ c. search all)
     (λ c. search all)
-    (λ c. λ xs. let p = c.before.before.before.before.loop.invariant.1 xs in search all)
+    (λ c. λ xs. let p = c.loop-i.invariant.1 xs in search all)
     (λ c. search all)
     (λ c. search all)
     (λ c κs. search all)
     (λ c. search all)
     (λ c. search all)
-    (λ c. (search all, λ xs. let p = c.before.before.before.before.before.before.before.before.before.loop.invariant.1 xs in search all, search all))
+    (λ c. (search all, λ xs. let p = c.loop-i.invariant.1 xs in search all, search all))
     (λ c. search all)
-    (λ c. λ xs. let p = c.before.loop.invariant.1 xs in search all))
+    (λ c. λ xs. let p = c.loop-i.invariant.1 xs in search all))

@@ -7,10 +7,10 @@ use Rattle.feed.proofs.Windows.{windows}
 use Rattle.feed.proofs.window.without.Statement.{statement}
 use Rattle.feed.proofs.window.without.Tie as tie
 
-abbrev invariant-loop : tie.invariant-loop
+abbrev invariant-loop : tie.invariant-loop-i
 invariant-loop n w r₀ i₀ r i = (i ≤ 4 - n) × (take i r.bytes ≡ take i (drop n w.bytes)) × (length r.bytes ≡ 4)
 
-abbrev decreases-loop : tie.decreases-loop
+abbrev decreases-loop : tie.decreases-loop-i
 decreases-loop n w r₀ i₀ r i = 4 - n - i
 
 pub without_spec : {M : Type 1} → statement M

@@ -3,10 +3,10 @@ use Rattle.inode_record.proofs.Turns.{turns, Going}
 use Rattle.inode_record.proofs.fields.fields_of.Statement.{statement}
 use Rattle.inode_record.proofs.fields.fields_of.Tie as tie
 
-abbrev invariant-loop : tie.invariant-loop
+abbrev invariant-loop : tie.invariant-loop-i
 invariant-loop v n f₀ i₀ off₀ f i off = Going v n i off f
 
-abbrev decreases-loop : tie.decreases-loop
+abbrev decreases-loop : tie.decreases-loop-i
 decreases-loop v n f₀ i₀ off₀ f i off = n - i
 
 pub fields_of_spec : {M : Type 1} → statement M

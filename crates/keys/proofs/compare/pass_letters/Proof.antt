@@ -13,11 +13,11 @@ use Rattle.keys.proofs.compare.pass_letters.Tie as tie
 
 ruleset turns = (rules, pass_starts, left_starts, letter_goes, letter_less, letter_to)
 
-abbrev invariant-loop : tie.invariant-loop
+abbrev invariant-loop : tie.invariant-loop-x
 invariant-loop a b caseless i j p₀ q₀ p q =
     (same_bytes (canonical (left_of caseless a p)) (canonical (left_of caseless b q)) ≡ same_left caseless a b i j) × (length (left_of caseless a p) ≤ length (letters caseless (drop i a)))
 
-abbrev decreases-loop : tie.decreases-loop
+abbrev decreases-loop : tie.decreases-loop-x
 decreases-loop a b caseless i j p₀ q₀ p q = length (left_of caseless a p)
 
 pub pass_letters_spec : {M : Type 1} → statement M
@@ -39,4 +39,4 @@ pass_letters_spec =
     (λ c κs. search turns)
     (λ c. search turns)
     (λ c. search turns)
-    (λ c. (letter_goes c.before.before.before.before.before.before.before.before.before.before.before.before.before.before.args.caseless c.before.before.before.before.before.before.before.before.before.before.before.before.before.before.args.a.now c.before.before.before.before.before.before.before.before.before.before.before.before.before.before.args.b.now c.before.before.before.before.before.before.before.before.before.before.before.before.before.before.args.i c.before.before.before.before.before.before.before.before.before.before.before.before.before.before.args.j c.before.before.before.before.before.before.before.before.before.before.before.loop.p c.before.before.before.before.before.before.before.before.before.before.before.loop.q _ _ c.before.before.before.before.before.before.before.before.before.before.next-letter.ensures c.before.before.before.before.before.before.next-letter2.ensures c.before.before.before.before.before.before.before.before.before.before.before.loop.invariant.0 c.before.before.before.before.before.before.before.before.before.before.before.loop.invariant.1 _ _ _ _ c.before.before.before.before.before.before.before.before.x.given.1 c.before.before.before.before.y.given.1 c.before.before.if1.false, omega (arith, letter_less c.before.before.before.before.before.before.before.before.before.before.before.before.before.before.args.caseless c.before.before.before.before.before.before.before.before.before.before.before.before.before.before.args.a.now c.before.before.before.before.before.before.before.before.before.before.before.before.before.before.args.b.now c.before.before.before.before.before.before.before.before.before.before.before.before.before.before.args.i c.before.before.before.before.before.before.before.before.before.before.before.before.before.before.args.j c.before.before.before.before.before.before.before.before.before.before.before.loop.p c.before.before.before.before.before.before.before.before.before.before.before.loop.q _ _ c.before.before.before.before.before.before.before.before.before.before.next-letter.ensures c.before.before.before.before.before.before.next-letter2.ensures c.before.before.before.before.before.before.before.before.before.before.before.loop.invariant.0 c.before.before.before.before.before.before.before.before.before.before.before.loop.invariant.1 _ _ _ _ c.before.before.before.before.before.before.before.before.x.given.1 c.before.before.before.before.y.given.1 c.before.before.if1.false, c.before.before.before.before.before.before.before.before.before.before.before.loop.invariant.1))))
+    (λ c. (letter_goes c.args.caseless c.args.a.now c.args.b.now c.args.i c.args.j c.loop-x.p c.loop-x.q _ _ c.next_letter.ensures c.next_letter-in-Letter.ensures c.loop-x.invariant.0 c.loop-x.invariant.1 _ _ _ _ c.in-Letter.is c.in-Letter-next_letter.is c.if-x-y.false, omega (arith, letter_less c.args.caseless c.args.a.now c.args.b.now c.args.i c.args.j c.loop-x.p c.loop-x.q _ _ c.next_letter.ensures c.next_letter-in-Letter.ensures c.loop-x.invariant.0 c.loop-x.invariant.1 _ _ _ _ c.in-Letter.is c.in-Letter-next_letter.is c.if-x-y.false, c.loop-x.invariant.1))))

@@ -10,11 +10,11 @@ use Rattle.keys.proofs.StreamLaws.{compare_starts, both_end, right_longer, left_
 
 ruleset turns = (rules, compare_starts, both_end, right_longer, left_longer, letters_differ, letters_agree, letters_less)
 
-abbrev invariant-loop : tie.invariant-loop
+abbrev invariant-loop : tie.invariant-loop-x
 invariant-loop a b caseless i j class p₀ q₀ p q =
     same_bytes (without class (left_of caseless a p)) (without class (left_of caseless b q)) ≡ same_bytes (without class (letters caseless (drop i a))) (without class (letters caseless (drop j b)))
 
-abbrev decreases-loop : tie.decreases-loop
+abbrev decreases-loop : tie.decreases-loop-x
 decreases-loop a b caseless i j class p₀ q₀ p q = length (without class (left_of caseless a p))
 
 pub same_but_spec : {M : Type 1} → statement M

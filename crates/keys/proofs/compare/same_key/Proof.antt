@@ -12,11 +12,11 @@ use Rattle.keys.proofs.compare.same_key.Tie as tie
 
 ruleset turns = (rules, prefix_starts, prefix_rest)
 
-abbrev invariant-loop : tie.invariant-loop
+abbrev invariant-loop : tie.invariant-loop-at
 invariant-loop a b caseless end at₀ at =
     (at ≤ length a) × ((end ≤ length a) × ((end ≤ length b) × (same_bytes (canonical (letters caseless (drop at a))) (canonical (letters caseless (drop at b))) ≡ same_keys caseless a b)))
 
-abbrev decreases-loop : tie.decreases-loop
+abbrev decreases-loop : tie.decreases-loop-at
 decreases-loop a b caseless end at₀ at = length a - at
 
 pub same_key_spec : {M : Type 1} → statement M
@@ -38,16 +38,16 @@ same_key_spec =
     (λ c κs. search turns)
     (λ c κs. search turns)
     (λ c. search turns)
-    (λ c. omega (arith, shared_fits c.before.before.before.before.before.before.before.before.before.before.before.before.args.caseless c.before.before.before.before.before.before.before.before.before.before.before.before.args.a.now c.before.before.before.before.before.before.before.before.before.before.before.before.args.b.now c.before.before.before.before.before.before.before.before.loop.at c.before.before.before.before.before.before.before.before.loop.at _ c.before.shared.ensures c.if2.false (omega arith)))
-    (λ c. omega (arith, shared_fits c.before.before.before.before.before.before.before.before.before.before.before.before.args.caseless c.before.before.before.before.before.before.before.before.before.before.before.before.args.a.now c.before.before.before.before.before.before.before.before.before.before.before.before.args.b.now c.before.before.before.before.before.before.before.before.loop.at c.before.before.before.before.before.before.before.before.loop.at _ c.before.shared.ensures c.if2.false (omega arith)))
-    (λ c. (omega (arith, shared_fits c.before.before.before.before.before.before.before.before.before.before.before.before.args.caseless c.before.before.before.before.before.before.before.before.before.before.before.before.args.a.now c.before.before.before.before.before.before.before.before.before.before.before.before.args.b.now c.before.before.before.before.before.before.before.before.loop.at c.before.before.before.before.before.before.before.before.loop.at _ c.before.shared.ensures c.if2.false (omega arith)), (search turns, (search turns, shared_goes c.before.before.before.before.before.before.before.before.before.before.before.before.args.caseless c.before.before.before.before.before.before.before.before.before.before.before.before.args.a.now c.before.before.before.before.before.before.before.before.before.before.before.before.args.b.now c.before.before.before.before.before.before.before.before.loop.at c.before.before.before.before.before.before.before.before.loop.at _ c.before.shared.ensures c.if2.false _ c.before.before.before.before.before.before.before.before.loop.invariant.1.1.1))))
+    (λ c. omega (arith, shared_fits c.args.caseless c.args.a.now c.args.b.now c.loop-at.at c.loop-at.at _ c.shared-n.ensures c.if-n-eq0.false (omega arith)))
+    (λ c. omega (arith, shared_fits c.args.caseless c.args.a.now c.args.b.now c.loop-at.at c.loop-at.at _ c.shared-n.ensures c.if-n-eq0.false (omega arith)))
+    (λ c. (omega (arith, shared_fits c.args.caseless c.args.a.now c.args.b.now c.loop-at.at c.loop-at.at _ c.shared-n.ensures c.if-n-eq0.false (omega arith)), (search turns, (search turns, shared_goes c.args.caseless c.args.a.now c.args.b.now c.loop-at.at c.loop-at.at _ c.shared-n.ensures c.if-n-eq0.false _ c.loop-at.invariant.1.1.1))))
     (λ c κs. search turns)
     (λ c κs. search turns)
     (λ c κs. search turns)
     (λ c. search turns)
-    (λ c. prefix_stops c.before.before.before.before.before.before.before.before.before.before.before.before.args.caseless c.before.before.before.before.before.before.before.before.before.before.before.before.args.a.now c.before.before.before.before.before.before.before.before.before.before.before.before.args.b.now c.before.before.before.before.before.before.before.before.loop.at c.before.before.before.before.before.before.before.before.loop.at _ c.before.before.before.before.before.before.before.before.loop.invariant.1.1.1 (omega arith) (omega arith) c.before.before.before.before.if1.false _ _ c.before.before.before.small-letter.ensures c.before.before.small-letter2.ensures c.if4.false c.before.if3.true)
+    (λ c. prefix_stops c.args.caseless c.args.a.now c.args.b.now c.loop-at.at c.loop-at.at _ c.loop-at.invariant.1.1.1 (omega arith) (omega arith) c.if-x-gt127.false _ _ c.small_letter.ensures c.small_letter-in-loop-at.ensures c.if-y-gt127.false c.if-small_letter.true)
     (λ c. search turns)
     (λ c. search turns)
-    (λ c. (omega arith, (search turns, (search turns, prefix_goes c.before.before.before.before.before.before.before.before.before.before.before.args.caseless c.before.before.before.before.before.before.before.before.before.before.before.args.a.now c.before.before.before.before.before.before.before.before.before.before.before.args.b.now c.before.before.before.before.before.before.before.loop.at c.before.before.before.before.before.before.before.loop.at _ c.before.before.before.before.before.before.before.loop.invariant.1.1.1 (omega arith) (omega arith) c.before.before.before.if1.false _ _ c.before.before.small-letter.ensures c.before.small-letter2.ensures c.if3.false))))
+    (λ c. (omega arith, (search turns, (search turns, prefix_goes c.args.caseless c.args.a.now c.args.b.now c.loop-at.at c.loop-at.at _ c.loop-at.invariant.1.1.1 (omega arith) (omega arith) c.if-x-gt127.false _ _ c.small_letter.ensures c.small_letter-in-loop-at.ensures c.if-small_letter.false))))
     (λ c κs. search turns)
     (λ c. search turns))

@@ -9,10 +9,10 @@ use Rattle.keys.proofs.compare.same_on.Tie as tie
 
 ruleset turns = (rules, prefix_rest, on_apart, on_goes, on_less)
 
-abbrev invariant-loop : tie.invariant-loop
+abbrev invariant-loop : tie.invariant-loop-k
 invariant-loop a b caseless at i₀ j₀ i j = same_left caseless a b i j ≡ same_left caseless a b at at
 
-abbrev decreases-loop : tie.decreases-loop
+abbrev decreases-loop : tie.decreases-loop-k
 decreases-loop a b caseless at i₀ j₀ i j = length (letters caseless (drop i a))
 
 pub same_on_spec : {M : Type 1} → statement M

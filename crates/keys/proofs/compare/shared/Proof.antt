@@ -20,4 +20,4 @@ shared_spec =
     (λ c. search turns)
     (λ c. search turns)
     (λ c. search turns)
-    (λ c. one_shared _ _ _ _ _ _ _ _ _ _ c.before.before.before.before.before.before.before.before.before.before.character-at.ensures c.before.before.before.before.before.before.character-at2.ensures c.before.before.before.before.before.before.before.before.c.given.1 c.before.before.before.before.d.given.1 c.before.before.if1.false c.before.alike.ensures c.if2.false))
+    (λ c. one_shared _ _ _ _ _ _ _ _ _ _ c.character_at.ensures c.character_at-in-At.ensures c.in-At.is c.in-At-character_at.is c.if-n-m.false c.alike.ensures c.if-not-alike.false-raw))

@@ -11,11 +11,11 @@ use Rattle.keys.proofs.matching.same_ascii.Tie as tie
 
 ruleset turns = (rules, prefix_starts, prefix_rest)
 
-abbrev invariant-loop : tie.invariant-loop
+abbrev invariant-loop : tie.invariant-loop-at
 invariant-loop part name caseless end at₀ at =
     (at ≤ length part) × ((end ≤ length part) × ((end ≤ length name) × (same_left caseless part name at at ≡ same_keys caseless part name)))
 
-abbrev decreases-loop : tie.decreases-loop
+abbrev decreases-loop : tie.decreases-loop-at
 decreases-loop part name caseless end at₀ at = length part - at
 
 pub same_ascii_spec : {M : Type 1} → statement M
@@ -32,9 +32,9 @@ same_ascii_spec =
     (λ c κs. search turns)
     (λ c κs. search turns)
     (λ c. search turns)
-    (λ c. beside_stops c.before.before.before.before.before.before.before.before.before.before.before.args.caseless c.before.before.before.before.before.before.before.before.before.before.before.args.part.now c.before.before.before.before.before.before.before.before.before.before.before.args.name.now c.before.before.before.before.before.before.before.before.before.before.before.requires c.before.before.before.before.before.before.before.loop.at _ c.before.before.before.before.before.before.before.loop.invariant.1.1.1 (omega arith) (omega arith) _ _ c.before.before.before.small-letter.ensures c.before.before.small-letter2.ensures c.if2.false c.before.if1.true)
+    (λ c. beside_stops c.args.caseless c.args.part.now c.args.name.now c.requires c.loop-at.at _ c.loop-at.invariant.1.1.1 (omega arith) (omega arith) _ _ c.small_letter.ensures c.small_letter-in-loop-at.ensures c.if-x-gt127.false c.if-small_letter.true)
     (λ c. search turns)
     (λ c. search turns)
-    (λ c. (omega arith, (search turns, (search turns, beside_goes c.before.before.before.before.before.before.before.before.before.before.args.caseless c.before.before.before.before.before.before.before.before.before.before.args.part.now c.before.before.before.before.before.before.before.before.before.before.args.name.now c.before.before.before.before.before.before.before.before.before.before.requires c.before.before.before.before.before.before.loop.at _ c.before.before.before.before.before.before.loop.invariant.1.1.1 (omega arith) (omega arith) _ _ c.before.before.small-letter.ensures c.before.small-letter2.ensures c.if1.false))))
+    (λ c. (omega arith, (search turns, (search turns, beside_goes c.args.caseless c.args.part.now c.args.name.now c.requires c.loop-at.at _ c.loop-at.invariant.1.1.1 (omega arith) (omega arith) _ _ c.small_letter.ensures c.small_letter-in-loop-at.ensures c.if-small_letter.false))))
     (λ c κs. search turns)
     (λ c. search turns))

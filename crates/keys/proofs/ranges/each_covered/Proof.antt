@@ -11,10 +11,10 @@ use Rattle.keys.proofs.ranges.each_covered.Tie as tie
 
 ruleset turns = (rules, covers_ascii, covers_fits, covers_done, covers_end, covers_some, covers_stops, covers_goes)
 
-abbrev invariant-loop : tie.invariant-loop
+abbrev invariant-loop : tie.invariant-loop-at
 invariant-loop b at₀ at = (at ≤ length b) × (covered_text (drop at b) ≡ covered_text b)
 
-abbrev decreases-loop : tie.decreases-loop
+abbrev decreases-loop : tie.decreases-loop-at
 decreases-loop b at₀ at = length b - at
 
 pub each_covered_spec : {M : Type 1} → statement M
@@ -37,7 +37,7 @@ each_covered_spec =
     (λ c. search turns)
     (λ c κs. search turns)
     (λ c. search turns)
-    (λ c. omega (arith, covers_fits c.before.before.before.before.before.before.before.before.before.before.before.before.args.b.now c.before.before.before.before.before.before.before.before.before.before.loop.at _ c.before.before.before.before.before.before.before.before.before.before.loop.invariant.1 _ c.before.before.before.before.before.character-at.ensures _ _ c.before.before.before.c.given.1 c.before.before.before.before.before.before.before.before.before.loop-test.true))
-    (λ c. omega (arith, covers_fits c.before.before.before.before.before.before.before.before.before.before.before.before.args.b.now c.before.before.before.before.before.before.before.before.before.before.loop.at _ c.before.before.before.before.before.before.before.before.before.before.loop.invariant.1 _ c.before.before.before.before.before.character-at.ensures _ _ c.before.before.before.c.given.1 c.before.before.before.before.before.before.before.before.before.loop-test.true, covers_some c.before.before.before.before.before.before.before.before.before.before.before.before.args.b.now c.before.before.before.before.before.before.before.before.before.before.loop.at _ c.before.before.before.before.before.before.before.before.before.before.loop.invariant.1 _ c.before.before.before.before.before.character-at.ensures _ _ c.before.before.before.c.given.1))
-    (λ c. (omega (arith, covers_fits c.before.before.before.before.before.before.before.before.before.before.before.before.args.b.now c.before.before.before.before.before.before.before.before.before.before.loop.at _ c.before.before.before.before.before.before.before.before.before.before.loop.invariant.1 _ c.before.before.before.before.before.character-at.ensures _ _ c.before.before.before.c.given.1 c.before.before.before.before.before.before.before.before.before.loop-test.true), covers_goes c.before.before.before.before.before.before.before.before.before.before.before.before.args.b.now c.before.before.before.before.before.before.before.before.before.before.loop.at _ c.before.before.before.before.before.before.before.before.before.before.loop.invariant.1 _ c.before.before.before.before.before.character-at.ensures _ _ c.before.before.before.c.given.1 _ c.before.is-covered.ensures c.if2.false))
+    (λ c. omega (arith, covers_fits c.args.b.now c.loop-at.at _ c.loop-at.invariant.1 _ c.character_at.ensures _ _ c.in-At.is c.loop-at-test.true))
+    (λ c. omega (arith, covers_fits c.args.b.now c.loop-at.at _ c.loop-at.invariant.1 _ c.character_at.ensures _ _ c.in-At.is c.loop-at-test.true, covers_some c.args.b.now c.loop-at.at _ c.loop-at.invariant.1 _ c.character_at.ensures _ _ c.in-At.is))
+    (λ c. (omega (arith, covers_fits c.args.b.now c.loop-at.at _ c.loop-at.invariant.1 _ c.character_at.ensures _ _ c.in-At.is c.loop-at-test.true), covers_goes c.args.b.now c.loop-at.at _ c.loop-at.invariant.1 _ c.character_at.ensures _ _ c.in-At.is _ c.is_covered.ensures c.if-not-is_covered.false-raw))
     (λ c. search turns))

@@ -9,10 +9,10 @@ use Rattle.keys.proofs.StreamLaws.{but_end, but_stops, but_goes, but_less}
 
 ruleset turns = (rules, but_end, but_stops, but_goes, but_less)
 
-abbrev invariant-loop : tie.invariant-loop
+abbrev invariant-loop : tie.invariant-loop-x
 invariant-loop b caseless class cursor₀ cursor = without class (left_of caseless b cursor) ≡ without class (left_of caseless b cursor₀)
 
-abbrev decreases-loop : tie.decreases-loop
+abbrev decreases-loop : tie.decreases-loop-x
 decreases-loop b caseless class cursor₀ cursor = length (left_of caseless b cursor)
 
 pub next_but_spec : {M : Type 1} → statement M

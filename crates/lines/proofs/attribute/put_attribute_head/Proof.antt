@@ -9,7 +9,6 @@ unfolding attribute_head
 put_attribute_head_spec =
     tie.close
     (tie.spec
-    (λ c. search rules)
     (λ c κs. search rules)
     (λ c. search rules)
     (λ c κs. search rules)

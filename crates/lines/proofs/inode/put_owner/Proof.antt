@@ -19,6 +19,6 @@ put_owner_spec =
     (λ c κs. search rules)
     (λ c. search rules)
     (λ c.
-    then_number _ _ _ _ _ _ c.before.before.before.before.before.before.before.before.before.before.before.before.before.before.before.before.before.before.before.put-number.ensures
-    (then_signed_number _ _ _ _ _ _ _ c.before.before.before.before.before.before.before.before.before.before.before.before.before.before.put-signed-number.ensures (search all)
-    (then_number _ _ _ _ _ _ c.before.before.before.before.before.before.before.before.before.put-number2.ensures c.before.before.put_three.ensures))))
+    then_number _ _ _ _ _ _ c.put_number-a.ensures
+    (then_signed_number _ _ _ _ _ _ _ c.put_signed_number-b.ensures (search all)
+    (then_number _ _ _ _ _ _ c.put_number-c.ensures c.put_three.ensures))))

@@ -10,7 +10,6 @@ unfolding entry_line entry_shown
 put_entry_line_spec =
     tie.close
     (tie.spec
-    (λ c. search rules)
     (λ c κs. search rules)
     (λ c. search rules)
     (λ c κs. search rules)

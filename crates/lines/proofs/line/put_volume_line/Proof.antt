@@ -9,7 +9,6 @@ unfolding volume_line
 put_volume_line_spec =
     tie.close
     (tie.spec
-    (λ c. search rules)
     (λ c κs. search rules)
     (λ c κs. search rules)
     (λ c κs. search rules)

@@ -6,10 +6,10 @@ use Rattle.nx.proofs.SlotTurns.{slots}
 use Rattle.nx.proofs.slots.volume_oid.Statement.{statement}
 use Rattle.nx.proofs.slots.volume_oid.Tie as tie
 
-abbrev invariant-loop : tie.invariant-loop
+abbrev invariant-loop : tie.invariant-loop-i
 invariant-loop image sb index n left₀ i₀ left i = volume_at left (slots_in image sb (n - i) i) ≡ volume_at index (volumes_of image sb)
 
-abbrev decreases-loop : tie.decreases-loop
+abbrev decreases-loop : tie.decreases-loop-i
 decreases-loop image sb index n left₀ i₀ left i = n - i
 
 pub volume_oid_spec : {M : Type 1} → statement M

@@ -1,5 +1,5 @@
 use borrow.Author.Rules.{rules}
-use Rattle.volume.proofs.Rules.{rules}
+use Rattle.volume.proofs.Rules.{by_rule}
 use Rattle.volume.proofs.rule.hashed_keys.Statement.{statement}
 use Rattle.volume.proofs.rule.hashed_keys.Tie as tie
 
@@ -9,4 +9,4 @@ hashed_keys_spec =
     (tie.spec
     (λ c κs. search rules)
     (λ c κs. search rules)
-    (λ c. search rules))
+    (λ c. search by_rule))
