@@ -6,7 +6,6 @@ use mathlib.Core.List.{List, [], ◌∷◌, append-nil}
 use lib.Dec.{T, leb, leb→le}
 use lib.ListN.{length, get_or, length-append}
 use lib.Ieee.Fits.{and_l, and_r}
-
 use borrow.Author.Tests.{not-true, not-false}
 use native.Mathlib.Omega.{arith}
 use native.Mathlib.Nat.{add-zero, zero-add, add-suc, suc-add, le_of_suc-le-suc, not-suc-le-zero}

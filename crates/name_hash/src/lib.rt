@@ -1,5 +1,6 @@
 // The hash stored with a directory entry's name (name_hash.rs).
 #![tactic(auto)]
+
 ghost use Rattle.std.specs.Prelude.{◌≡◌, [], ◌∷◌};
 ghost use Rattle.byte_fields.specs.Number.{told};
 ghost use Rattle.crc.specs.Crc.{crc};

@@ -5,7 +5,6 @@ use mathlib.Core.Bool.{Bool, true, false}
 use mathlib.Core.List.{List, [], ◌∷◌, ◌++◌}
 use native.Mathlib.Omega.{arith}
 use native.Mathlib.Nat.{add_assoc}
-
 use lib.Dec.{eqb}
 use lib.ListN.{length, take, drop}
 use Rattle.error.specs.Answer.{pick, if_eq}

@@ -6,7 +6,6 @@ use mathlib.Core.Logic.{◌⊎◌, inl, inr}
 use mathlib.Core.List.{List, [], ◌∷◌, append-nil}
 use lib.Dec.{T, leb, eqb, eqb→eq}
 use borrow.Author.Tests.{leb-true, leb-false, eqb-true, eqb-false}
-
 use native.Mathlib.Omega.{arith}
 use Rattle.error.specs.Answer.{if_le, if_eq}
 use Rattle.utf8.specs.Text.{Range, if_in, same_bytes}

@@ -12,5 +12,5 @@ blocks_of_spec =
     (λ c. search rules)
     (λ c. search (rules, blocks_even))
     (λ c. search rules)
-    (λ c. omega (arith, odd_less c.before.args.bs c.before.args.n (omega arith) (omega arith)))
+    (λ c. omega (arith, odd_less c.args.bs c.args.n (omega arith) (omega arith)))
     (λ c. search (rules, blocks_odd)))

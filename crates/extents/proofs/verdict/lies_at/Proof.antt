@@ -10,7 +10,7 @@ lies_at_spec =
     (tie.spec
     (λ c κs. search rules)
     (λ c. search rules)
-    (λ c. lies_8 _ _ _ _ c.before.block_size.ensures (omega arith) (omega arith))
+    (λ c. lies_8 _ _ _ _ c.block_size-bs.ensures (omega arith) (omega arith))
     (λ c. search rules)
-    (λ c. lies_1 _ _ _ _ c.before.before.block_size.ensures (omega arith) (omega arith) (omega arith))
-    (λ c. lies_fine _ _ _ _ c.before.before.block_size.ensures (omega arith) (omega arith) (omega arith)))
+    (λ c. lies_1 _ _ _ _ c.block_size-bs.ensures (omega arith) (omega arith) (omega arith))
+    (λ c. lies_fine _ _ _ _ c.block_size-bs.ensures (omega arith) (omega arith) (omega arith)))

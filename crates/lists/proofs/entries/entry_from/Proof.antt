@@ -10,11 +10,11 @@ use Rattle.lists.proofs.Turns.{turns}
 use Rattle.lists.proofs.entries.entry_from.Statement.{statement}
 use Rattle.lists.proofs.entries.entry_from.Tie as tie
 
-abbrev invariant-loop : tie.invariant-loop
+abbrev invariant-loop : tie.invariant-loop-e
 invariant-loop image id place q keys kept₀ left₀ s₀ i₀ kept left s i =
     reading (entry_at q.keys.hashed q.keys.reader image) (sought (entry_placed kept) left) (run_at image q s i) ≡ placed place (list_of (entry_at q.keys.hashed q.keys.reader image) (run_at image q s₀ i₀))
 
-abbrev decreases-loop : tie.decreases-loop
+abbrev decreases-loop : tie.decreases-loop-e
 decreases-loop image id place q keys kept₀ left₀ s₀ i₀ kept left s i = rest image q s i
 
 pub entry_from_spec : {M : Type 1} → statement M

@@ -7,10 +7,10 @@ use Rattle.paths.proofs.Keys.{wide_done, wide_stops, wide_goes}
 use Rattle.paths.proofs.compare.is_wide.Statement.{statement}
 use Rattle.paths.proofs.compare.is_wide.Tie as tie
 
-abbrev invariant-loop : tie.invariant-loop
+abbrev invariant-loop : tie.invariant-loop-i
 invariant-loop b i₀ i = wide (drop i b) ≡ wide b
 
-abbrev decreases-loop : tie.decreases-loop
+abbrev decreases-loop : tie.decreases-loop-i
 decreases-loop b i₀ i = length b - i
 
 ruleset turns = (all, wide_done, wide_stops, wide_goes)

@@ -7,10 +7,10 @@ use Rattle.paths.proofs.Keys.{key_lengths, key_done, key_stops, key_goes}
 use Rattle.paths.proofs.compare.same_key.Statement.{statement}
 use Rattle.paths.proofs.compare.same_key.Tie as tie
 
-abbrev invariant-loop : tie.invariant-loop
+abbrev invariant-loop : tie.invariant-loop-i
 invariant-loop rule a b i₀ i = (length a ≡ length b) × (same_keys rule.case_insensitive rule.normalization_insensitive (drop i a) (drop i b) ≡ same_keys rule.case_insensitive rule.normalization_insensitive a b)
 
-abbrev decreases-loop : tie.decreases-loop
+abbrev decreases-loop : tie.decreases-loop-i
 decreases-loop rule a b i₀ i = length a - i
 
 ruleset turns = (all, key_lengths, key_done, key_stops, key_goes)
@@ -30,5 +30,5 @@ same_key_spec =
     (λ c. search turns)
     (λ c. search turns)
     (λ c. search turns)
-    (λ c. (search turns, key_goes _ _ _ _ c.before.before.before.before.before.before.loop.invariant.0 _ _ c.before.before.before.before.before.before.loop.invariant.1 c.before.before.before.before.before.loop-test.true _ _ c.before.before.before.fold.ensures c.before.fold2.ensures c.if2.false))
+    (λ c. (search turns, key_goes _ _ _ _ c.loop-i.invariant.0 _ _ c.loop-i.invariant.1 c.loop-i-test.true _ _ c.fold.ensures c.fold-in-loop-i.ensures c.if-fold.false))
     (λ c. search turns))

@@ -7,10 +7,10 @@ use Rattle.paths.proofs.Parts.{past_done, past_stops, past_goes}
 use Rattle.paths.proofs.split.past.Statement.{statement}
 use Rattle.paths.proofs.split.past.Tie as tie
 
-abbrev invariant-loop : tie.invariant-loop
+abbrev invariant-loop : tie.invariant-loop-i
 invariant-loop path at separators i₀ i = i + leading separators (drop i path) ≡ at + leading separators (drop at path)
 
-abbrev decreases-loop : tie.decreases-loop
+abbrev decreases-loop : tie.decreases-loop-i
 decreases-loop path at separators i₀ i = length path - i
 
 ruleset turns = (all, past_done, past_stops, past_goes)

@@ -5,10 +5,10 @@ use Rattle.paths.proofs.Walking.{Walking, walking}
 use Rattle.paths.proofs.walk.lookup_path.Statement.{statement}
 use Rattle.paths.proofs.walk.lookup_path.Tie as tie
 
-abbrev invariant-loop : tie.invariant-loop
+abbrev invariant-loop : tie.invariant-loop-p
 invariant-loop image v path nodes found₀ p₀ found p = Walking image v path nodes found p
 
-abbrev decreases-loop : tie.decreases-loop
+abbrev decreases-loop : tie.decreases-loop-p
 decreases-loop image v path nodes found₀ p₀ found p = length path - p.start
 
 pub lookup_path_spec : {M : Type 1} → statement M
