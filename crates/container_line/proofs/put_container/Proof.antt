@@ -12,9 +12,8 @@ put_container_spec =
     (λ c. search rules)
     (λ c κs. search rules)
     (λ c κs. search rules)
-    (λ c. search rules)
     (λ c κs. search rules)
     (λ c. search rules)
     (λ c.
-    then_head _ _ _ _ _ _ _ _ c.before.before.before.before.before.before.before.before.before.before.before.put-head.ensures
-    (then_numbers _ _ _ _ _ _ c.before.before.before.before.before.before.before.put-volumes.ensures c.before.before.put_all_lem.ensures)))
+    then_head _ _ _ _ _ _ _ _ c.put_head-a.ensures
+    (then_numbers _ _ _ _ _ _ c.put_volumes-b.ensures c.put_all_lem.ensures)))

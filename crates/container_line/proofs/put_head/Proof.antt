@@ -11,13 +11,12 @@ unfolding container_head
 put_head_spec =
     tie.close
     (tie.spec
-    (λ c. search rules)
     (λ c κs. search rules)
     (λ c κs. search rules)
     (λ c κs. search rules)
     (λ c κs. search rules)
     (λ c. search rules)
     (λ c.
-    then_literal _ _ _ _ _ _ c.before.before.before.before.before.before.before.before.before.before.before.before.before.before.put_all_lem.ensures refl
-    (then_word _ _ _ _ _ _ c.before.before.before.before.before.before.before.before.before.before.put_word.ensures
-    (then_word _ _ _ _ _ _ c.before.before.before.before.before.before.put-word2.ensures c.before.before.put-word3.ensures))))
+    then_literal _ _ _ _ _ _ c.put_all_lem.ensures refl
+    (then_word _ _ _ _ _ _ c.put_word.ensures
+    (then_word _ _ _ _ _ _ c.put_word-c.ensures c.put_word.ensures))))

@@ -17,6 +17,6 @@ read_over_spec =
     (λ c. search (rules, call_none))
     (λ c. search rules)
     (λ c. search (rules, part_length))
-    (λ c κs. call_ready _ _ _ _ _ _ _ _ c.before.before.before.before.before.before.before.wanted.ensures c.before.before.before.before.before.before.stop-of.ensures c.before.before.before.before.before.judge.result c.before.before.before.before.before.judge.ensures (search rules) (λ z. omega arith) (omega arith))
+    (λ c κs. call_ready _ _ _ _ _ _ _ _ c.wanted-n.ensures c.stop_of.ensures c.judge-j.result c.judge-j.ensures (search rules) (λ z. omega arith) (omega arith))
     (λ c. search rules)
     (λ c. search (rules, call_filled)))

@@ -13,12 +13,12 @@ use Rattle.streams.proofs.Pouring.{pouring, pour_end, pour_no, pour_passed, pour
 use Rattle.streams.proofs.pour.put_stream_from.Statement.{statement}
 use Rattle.streams.proofs.pour.put_stream_from.Tie as tie
 
-abbrev invariant-loop : tie.invariant-loop
+abbrev invariant-loop : tie.invariant-loop-o
 invariant-loop out₀ room image object size q keys reader o₀ pos₀ s₀ i₀ out o pos s i =
     (puts room (pairs (run_bytes (extent_at q.keys.reader image) (disk_of reader image) size pos (run_at image q s i)) []) (output_of o out)
     ≡ puts room (pairs (run_bytes (extent_at q.keys.reader image) (disk_of reader image) size 0 (run_at image q s₀ i₀)) []) (output_of o₀ out₀)) × (length out ≡ length out₀)
 
-abbrev decreases-loop : tie.decreases-loop
+abbrev decreases-loop : tie.decreases-loop-o
 decreases-loop out₀ room image object size q keys reader o₀ pos₀ s₀ i₀ out o pos s i = rest image q s i
 
 pub put_stream_from_spec : {M : Type 1} → statement M
@@ -38,16 +38,16 @@ put_stream_from_spec =
     (λ c κs. search pouring)
     (λ c κs. search pouring)
     (λ c. search pouring)
-    (λ c. pour_done _ _ c.before.before.before.before.before.before.before.before.before.before.before.before.before.before.before.before.args.v _ _ _ _ _ _ c.before.before.before.before.before.before.before.before.before.before.before.before.before.search.ensures (pour_end _ _ _ _ _ _ _ _ _ c.before.before.before.before.before.before.before.extent-in.ensures _ _ _ c.before.before.before.before.before.before.before.before.before.before.loop.invariant.0 _ _ (extent_over _ c.before.before.before.before.before.enum-told2.given.1) c.before.before.before.less.ensures c.before.before.put-zeros.ensures))
+    (λ c. pour_done _ _ c.args.v _ _ _ _ _ _ c.search-q.ensures (pour_end _ _ _ _ _ _ _ _ _ c.extent_in.ensures _ _ _ c.loop-o.invariant.0 _ _ (extent_over _ c.in-Over.is) c.less.ensures c.put_zeros.ensures))
     (λ c. search pouring)
     (λ c. search pouring)
-    (λ c. pour_done _ _ c.before.before.before.before.before.before.before.before.before.before.before.args.v _ _ _ _ _ _ c.before.before.before.before.before.before.before.before.search.ensures (pour_no _ _ _ _ _ _ _ _ _ c.before.before.extent-in.ensures _ _ _ c.before.before.before.before.before.loop.invariant.0 _ (extent_refused _ _ c.enum-told3.given.1)))
-    (λ c. search pouring)
-    (λ c κs. search pouring)
-    (λ c. search pouring)
-    (λ c. (pour_passed _ _ _ _ _ _ _ _ _ c.before.before.before.before.extent-in.ensures _ _ _ c.before.before.before.before.before.before.before.loop.invariant.0 _ (search pouring) c.next.ensures, c.before.before.before.before.before.before.before.loop.invariant.1))
+    (λ c. pour_done _ _ c.args.v _ _ _ _ _ _ c.search-q.ensures (pour_no _ _ _ _ _ _ _ _ _ c.extent_in.ensures _ _ _ c.loop-o.invariant.0 _ (extent_refused _ _ c.in-No-extent_in.is)))
     (λ c. search pouring)
     (λ c κs. search pouring)
+    (λ c. search pouring)
+    (λ c. (pour_passed _ _ _ _ _ _ _ _ _ c.extent_in.ensures _ _ _ c.loop-o.invariant.0 _ (search pouring) c.next-s.ensures, c.loop-o.invariant.1))
+    (λ c. search pouring)
+    (λ c κs. search pouring)
     (λ c κs. search pouring)
     (λ c. search pouring)
-    (λ c. (pour_next _ _ _ _ _ _ _ _ _ c.before.before.before.before.before.before.before.before.extent-in.ensures _ _ _ c.before.before.before.before.before.before.before.before.before.before.before.loop.invariant.0 _ _ _ _ (extent_one _ _ _ c.before.before.before.before.before.before.e.given.1) c.before.before.before.put_step.ensures c.next-pos.ensures, let l = c.before.before.before.before.before.before.before.before.before.before.before.loop.invariant.1 in search pouring)))
+    (λ c. (pour_next _ _ _ _ _ _ _ _ _ c.extent_in.ensures _ _ _ c.loop-o.invariant.0 _ _ _ _ (extent_one _ _ _ c.in-At.is) c.put_step-o.ensures c.next_pos-pos.ensures, let l = c.loop-o.invariant.1 in search pouring)))

@@ -8,11 +8,11 @@ use Rattle.streams.proofs.Pouring.{zeros}
 use Rattle.streams.proofs.pour.write_zeros.Statement.{statement}
 use Rattle.streams.proofs.pour.write_zeros.Tie as tie
 
-abbrev invariant-loop : tie.invariant-loop
-invariant-loop out₀ room n q₀ left₀ t8 out q left = (puts room (pairs (replicate left 0) []) (output_of q out) ≡ puts room (pairs (replicate n 0) []) (output_of q₀ out₀)) × (length out ≡ length out₀)
+abbrev invariant-loop : tie.invariant-loop-left
+invariant-loop out₀ room n q₀ left₀ out q left = (puts room (pairs (replicate left 0) []) (output_of q out) ≡ puts room (pairs (replicate n 0) []) (output_of q₀ out₀)) × (length out ≡ length out₀)
 
-abbrev decreases-loop : tie.decreases-loop
-decreases-loop out₀ room n q₀ left₀ t8 out q left = left
+abbrev decreases-loop : tie.decreases-loop-left
+decreases-loop out₀ room n q₀ left₀ out q left = left
 
 pub write_zeros_spec : {M : Type 1} → statement M
 write_zeros_spec =
@@ -20,7 +20,6 @@ write_zeros_spec =
     (tie.spec
     invariant-loop
     decreases-loop
-    (λ c. search zeros)
     (λ c. search zeros)
     (λ c. search zeros)
     (λ c. search zeros)

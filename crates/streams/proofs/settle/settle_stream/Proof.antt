@@ -13,12 +13,12 @@ use Rattle.streams.proofs.Laws.{settles, settling, settle_start}
 use Rattle.streams.proofs.settle.settle_stream.Statement.{statement}
 use Rattle.streams.proofs.settle.settle_stream.Tie as tie
 
-abbrev invariant-loop : tie.invariant-loop
+abbrev invariant-loop : tie.invariant-loop-w
 invariant-loop image object size nodes q keys reader ruling₀ pos₀ s₀ i₀ ruling pos s i =
     reading (extent_at q.keys.reader image) (settling (disk_of reader image) size (ruled ruling) pos) (run_at image q s i)
     ≡ (onto (list_of (extent_at q.keys.reader image) (scan_of image q nodes)) λ es t. after t (settle (disk_of reader image) size 0 es))
 
-abbrev decreases-loop : tie.decreases-loop
+abbrev decreases-loop : tie.decreases-loop-w
 decreases-loop image object size nodes q keys reader ruling₀ pos₀ s₀ i₀ ruling pos s i = rest image q s i
 
 pub settle_stream_spec : {M : Type 1} → statement M
@@ -29,7 +29,7 @@ settle_stream_spec =
     decreases-loop
     (λ c κs. search settles)
     (λ c κs. search settles)
-    (λ c. settle_start _ _ _ _ _ c.first.ensures.run)
+    (λ c. settle_start _ _ _ _ _ c.first-s.ensures.run)
     (λ c κs. search settles)
     (λ c. search settles)
     (λ c κs. search settles)
