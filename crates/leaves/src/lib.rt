@@ -1,5 +1,6 @@
 // The leaves, exported for the host's comparison with the Rust. Each answers a number.
 #![tactic(auto)]
+
 mod answers;
 mod fields;
 mod names;
