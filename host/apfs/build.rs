@@ -22,7 +22,7 @@ fn main() {
     println!("cargo:rerun-if-changed={}", archive.display());
     if !archive.is_file() {
         eprintln!("{} is not there.", archive.display());
-        eprintln!("Run `rt staticlib apfs` in the repository, or name the archive's folder in APFS_STATICLIB_DIR.");
+        eprintln!("Run `tools/archives.sh apfs` in the repository, or name the archive's folder in APFS_STATICLIB_DIR.");
         exit(1);
     }
     let folder = folder.canonicalize().expect("the archive's folder");

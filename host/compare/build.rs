@@ -17,7 +17,7 @@ fn link(folder: &Path, name: &str) {
     println!("cargo:rerun-if-changed={}", archive.display());
     if !archive.is_file() {
         eprintln!("{} is not there.", archive.display());
-        eprintln!("Run `rt staticlib {name}` in the repository, or name the archive's folder in APFS_STATICLIB_DIR.");
+        eprintln!("Run `tools/archives.sh {name}` in the repository, or name the archive's folder in APFS_STATICLIB_DIR.");
         exit(1);
     }
     println!("cargo:rustc-link-lib=static={name}");

@@ -1,7 +1,7 @@
 #!/usr/bin/env bash
 # Sticks read by libfsapfs (Debian's libfsapfs-utils), which nobody here wrote, and listed by the port: the names at
 # their places must be the same, and the bytes of files where libfsapfs gives their MD5. Not a part of the gate; it
-# needs `rt staticlib apfs`.
+# needs `tools/archives.sh apfs`.
 #
 #     host/scripts/libfsapfs.sh [COUNT]     how many sticks are drawn, 200 where it is left out
 set -eu -o pipefail

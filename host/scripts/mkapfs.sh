@@ -1,6 +1,6 @@
 #!/usr/bin/env bash
 # Makes containers with mkapfs (Debian's apfsprogs), which nobody here wrote, and opens each by the
-# oracle and, after `rt staticlib apfs`, by the port. Not a part of the gate.
+# oracle and, after `tools/archives.sh apfs`, by the port. Not a part of the gate.
 #
 #     host/scripts/mkapfs.sh [FOLDER]     the containers are kept in FOLDER, if one is named
 set -eu -o pipefail

@@ -1,7 +1,8 @@
 #!/usr/bin/env bash
 # Partition tables made by sgdisk (Debian's gdisk), which nobody here wrote, around drawn containers: the part that is
 # read must be the one that `sgdisk -i` shows, and the port must list the container in it as it lists the container by
-# itself; so also by the backup, when the primary header is zeroed. Not a part of the gate; it needs `rt staticlib apfs`.
+# itself; so also by the backup, when the primary header is zeroed. Not a part of the gate; it needs
+# `tools/archives.sh apfs`.
 #
 #     host/scripts/sgdisk.sh [COUNT]     how many containers are drawn, 8 where it is left out
 set -eu -o pipefail

@@ -1,6 +1,6 @@
 #!/usr/bin/env bash
 # Drawn sticks, whole ones and such as are refused, printed by the tool: what grep, sed and wc count over the lines of a
-# print must be its totals (request 08). Not a part of the gate; it needs `rt staticlib apfs`.
+# print must be its totals (request 08). Not a part of the gate; it needs `tools/archives.sh apfs`.
 #
 #     host/scripts/totals.sh [COUNT]     how many sticks are drawn, 300 where it is left out
 set -eu -o pipefail

@@ -1,6 +1,6 @@
 //! Compares the port with the published Rust.
 //!
-//! In the repository, `rt staticlib leaves`; then, in host/:
+//! In the repository, `tools/archives.sh leaves`; then, in host/:
 //!
 //! ```text
 //! cargo run --release -p compare                    compare, and say how many cases of each kind agreed
@@ -23,10 +23,10 @@
 //! cargo run --release -p compare -- open FILE..     open these images, and print each answer
 //! ```
 //!
-//! After `rt staticlib apfs`, with `--features apfs`, `sticks`, `words` and `open` hold the port's opening and its lists of wrong words
-//! against the oracle's, and with `--features calls` `volumes`, `calls`, `list`, `parts`, `checkpoints`, `pairs` and
-//! `desks` do the same of its calls, its listings and its counts; without these features they ask the oracle alone, as
-//! `maps` always does.
+//! After `tools/archives.sh apfs`, with `--features apfs`, `sticks`, `words` and `open` hold the port's opening and its lists
+//! of wrong words against the oracle's, and with `--features calls` `volumes`, `calls`, `list`, `parts`, `checkpoints`,
+//! `pairs` and `desks` do the same of its calls, its listings and its counts; without these features they ask the oracle
+//! alone, as `maps` always does.
 //! Timings of both:
 //!
 //! ```text
