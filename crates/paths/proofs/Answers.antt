@@ -84,7 +84,7 @@ module _ (b : List ℕ) (v : Volume) (entries : ℕ → Answer (List Entry)) (in
   walk_answers_lem : (c : Counted Inode) (ps : List (List ℕ)) → (walk_parts b v c ps).answer ≡ walk_answers (rule_of v) (name_read v.reader b) entries inode c.answer ps
   unfolding walk_parts walk_answers
   walk_answers_lem c [] = refl
-  walk_answers_lem c (p ∷ ps) = walk_answers_lem _ ps ∙ ap (λ (a : Answer Inode). walk_answers (rule_of v) (name_read v.reader b) entries inode a ps) (of c.nodes c.answer)
+  walk_answers_lem c (p ∷ ps) = walk_answers_lem (onto c λ f t. part_inode b v p f.id t) ps ∙ ap (λ (a : Answer Inode). walk_answers (rule_of v) (name_read v.reader b) entries inode a ps) (of c.nodes c.answer)
     where
       of : (n : ℕ) (a : Answer Inode) → (onto (after n a) λ f t. part_inode b v p f.id t).answer ≡ (a >>= λ f. entries f.id >>= λ es. find_entry (rule_of v) (name_read v.reader b) p es >>= λ e. inode e.file_id)
       of n (got f) = part_answer p f.id n

@@ -16,4 +16,4 @@ put_container_spec =
     (λ c. search rules)
     (λ c.
     then_head _ _ _ _ _ _ _ _ c.put_head-a.ensures
-    (then_numbers _ _ _ _ _ _ c.put_volumes-b.ensures c.put_all_lem.ensures)))
+    (then_numbers _ _ _ _ _ _ c.put_volumes-b.ensures c.put_all.ensures)))

@@ -17,6 +17,6 @@ put_head_spec =
     (λ c κs. search rules)
     (λ c. search rules)
     (λ c.
-    then_literal _ _ _ _ _ _ c.put_all_lem.ensures refl
-    (then_word _ _ _ _ _ _ c.put_word.ensures
+    then_literal _ _ _ _ _ _ c.put_all-a.ensures refl
+    (then_word _ _ _ _ _ _ c.put_word-b.ensures
     (then_word _ _ _ _ _ _ c.put_word-c.ensures c.put_word.ensures))))

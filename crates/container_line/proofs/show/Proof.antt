@@ -14,9 +14,9 @@ show_spec =
     (λ c. search rules)
     (λ c κs. search rules)
     (λ c. search rules)
-    (λ c. filled_short _ _ c.put_container.new.0 _ c.put_container.auto.0 c.put_container.ensures _ c.in-No.is)
+    (λ c. filled_short _ _ c.put_container.new.out _ c.put_container.auto.out c.put_container.ensures _ c.in-No.is)
     (λ c. search rules)
     (λ c.
-    filled_written _ _ c.put_container.new.0 _ c.put_container.auto.0 c.put_container.ensures _
-    c.put_container-in-At.result c.put_container-in-At.new.0 c.in-At.is
+    filled_written _ _ c.put_container.new.out _ c.put_container.auto.out c.put_container.ensures _
+    c.put_container-in-At.result c.put_container-in-At.new.out c.in-At.is
     c.put_container-in-At.ensures))

@@ -11,12 +11,12 @@ use Rattle.contents.proofs.Laws.{aparts, ordering}
 use Rattle.contents.proofs.apart.Statement.{statement}
 use Rattle.contents.proofs.apart.Tie as tie
 
-abbrev invariant-loop : tie.invariant-loop
+abbrev invariant-loop : tie.invariant-loop-w
 invariant-loop image q keys ruling₀ last₀ s₀ i₀ ruling last s i =
     reading (extent_at q.keys.reader image) (ordering (ruled ruling) last) (run_at image q s i)
     ≡ (onto (list_of (extent_at q.keys.reader image) (run_at image q s₀ i₀)) λ es t. after t (apart es))
 
-abbrev decreases-loop : tie.decreases-loop
+abbrev decreases-loop : tie.decreases-loop-w
 decreases-loop image q keys ruling₀ last₀ s₀ i₀ ruling last s i = rest image q s i
 
 pub apart_spec : {M : Type 1} → statement M

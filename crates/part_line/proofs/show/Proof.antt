@@ -14,9 +14,9 @@ show_spec =
     (λ c. search rules)
     (λ c κs. search rules)
     (λ c. search rules)
-    (λ c. filled_short _ _ c.before.before.before.before.before.put-part.new.0 _ c.before.before.before.before.before.put-part.auto.0 c.before.before.before.before.before.put-part.ensures _ c.before.e.given.1)
+    (λ c. filled_short _ _ c.put_part.new.0 _ c.put_part.auto.0 c.put_part.ensures _ c.in-No.is)
     (λ c. search rules)
     (λ c.
-    filled_written _ _ c.before.before.before.before.before.before.before.before.put-part.new.0 _ c.before.before.before.before.before.before.before.before.put-part.auto.0 c.before.before.before.before.before.before.before.before.put-part.ensures _
-    c.before.before.put-part2.result c.before.before.put-part2.new.0 c.before.before.before.before.enum_told.given.1
-    c.before.before.put-part2.ensures))
+    filled_written _ _ c.put_part.new.0 _ c.put_part.auto.0 c.put_part.ensures _
+    c.put_part-in-At.result c.put_part-in-At.new.0 c.in-At.is
+    c.put_part-in-At.ensures))

@@ -8,12 +8,12 @@ use Rattle.wrong_word.proofs.Laws.{places}
 use Rattle.wrong_word.proofs.put_all_places.Statement.{statement}
 use Rattle.wrong_word.proofs.put_all_places.Tie as tie
 
-abbrev invariant-loop : tie.invariant-loop
+abbrev invariant-loop : tie.invariant-loop-left
 invariant-loop out₀ room g object q₀ left₀ at₀ out q left at =
     (length out ≡ length out₀) × (at + 4 * left ≤ length object)
     × (puts room (listed (solved_from g object left at)) (output_of q out) ≡ puts room (listed (solved_from g object ((length object - 8) / 4) 8)) (output_of q₀ out₀))
 
-abbrev decreases-loop : tie.decreases-loop
+abbrev decreases-loop : tie.decreases-loop-left
 decreases-loop out₀ room g object q₀ left₀ at₀ out q left at = left
 
 pub put_all_places_spec : {M : Type 1} → statement M

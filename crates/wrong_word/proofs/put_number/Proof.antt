@@ -7,10 +7,10 @@ use Rattle.wrong_word.proofs.Laws.{bytes}
 use Rattle.wrong_word.proofs.put_number.Statement.{statement}
 use Rattle.wrong_word.proofs.put_number.Tie as tie
 
-abbrev invariant-loop : tie.invariant-loop
+abbrev invariant-loop : tie.invariant-loop-i
 invariant-loop out₀ room n x q₀ rest₀ i₀ out q rest i = (length out ≡ length out₀) × (puts room (little_bytes (n - i) rest) (output_of q out) ≡ puts room (little_bytes n x) (output_of q₀ out₀))
 
-abbrev decreases-loop : tie.decreases-loop
+abbrev decreases-loop : tie.decreases-loop-i
 decreases-loop out₀ room n x q₀ rest₀ i₀ out q rest i = n - i
 
 pub put_number_spec : {M : Type 1} → statement M

@@ -7,7 +7,6 @@ pub read_link_spec : {M : Type 1} → statement M
 read_link_spec =
     tie.close
     (tie.spec
-    (λ c. search rules)
     (λ c κs. search rules)
     (λ c. search rules)
     (λ c κs. search rules)

@@ -7,7 +7,6 @@ pub link_replaced_spec : {M : Type 1} → statement M
 link_replaced_spec =
     tie.close
     (tie.spec
-    (λ c. search rules)
     (λ c κs. search rules)
     (λ c. search rules)
     (λ c κs. search rules)

@@ -13,12 +13,12 @@ use Rattle.links.proofs.Names.{names, sought_name, name_start}
 use Rattle.links.proofs.named.attribute_named.Statement.{statement}
 use Rattle.links.proofs.named.attribute_named.Tie as tie
 
-abbrev invariant-loop : tie.invariant-loop
+abbrev invariant-loop : tie.invariant-loop-e
 invariant-loop image id name nodes q keys reader kept₀ s₀ i₀ kept s i =
     reading (attribute_at q.keys.reader image) (sought_name reader image name (attribute_placed kept)) (run_at image q s i)
     ≡ (onto (list_of (attribute_at q.keys.reader image) (scan_of image q nodes)) λ xs t. after t (got (named reader image name xs)))
 
-abbrev decreases-loop : tie.decreases-loop
+abbrev decreases-loop : tie.decreases-loop-e
 decreases-loop image id name nodes q keys reader kept₀ s₀ i₀ kept s i = rest image q s i
 
 pub attribute_named_spec : {M : Type 1} → statement M
@@ -29,7 +29,7 @@ attribute_named_spec =
     decreases-loop
     (λ c κs. search names)
     (λ c κs. search names)
-    (λ c. name_start _ _ _ _ _ _ c.first.ensures.run)
+    (λ c. name_start _ _ _ _ _ _ c.first-s.ensures.run)
     (λ c κs. search names)
     (λ c. search names)
     (λ c κs. search names)

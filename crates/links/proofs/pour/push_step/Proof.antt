@@ -14,4 +14,4 @@ push_step_spec =
     (λ c κs. search rules)
     (λ c κs. search rules)
     (λ c. search rules)
-    (λ c. λ xs. step_some _ _ _ _ xs _ _ _ _ _ _ _ _ _ _ _ c.before.before.before.before.before.before.before.before.before.before.before.if1.false c.before.before.before.before.before.before.before.before.before.before.smaller.ensures c.before.before.before.before.before.before.before.before.before.less.ensures c.before.before.before.before.before.before.before.feed-zeros.ensures c.before.before.before.wanted.ensures c.before.before.push-taken.ensures))
+    (λ c. λ xs. step_some _ _ _ _ xs _ _ _ _ _ _ _ _ _ _ _ c.if-size-pos.false c.smaller-a.ensures c.less-gap.ensures c.feed_zeros-g.ensures c.wanted.ensures c.push_taken.ensures))

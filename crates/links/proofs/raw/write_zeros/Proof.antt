@@ -6,10 +6,10 @@ use Rattle.links.proofs.Feeding.{zeros}
 use Rattle.links.proofs.raw.write_zeros.Statement.{statement}
 use Rattle.links.proofs.raw.write_zeros.Tie as tie
 
-abbrev invariant-loop : tie.invariant-loop
+abbrev invariant-loop : tie.invariant-loop-left
 invariant-loop out₀ room n q₀ left₀ out q left = (puts room (replicate left 0) (output_of q out) ≡ puts room (replicate n 0) (output_of q₀ out₀)) × (length out ≡ length out₀)
 
-abbrev decreases-loop : tie.decreases-loop
+abbrev decreases-loop : tie.decreases-loop-left
 decreases-loop out₀ room n q₀ left₀ out q left = left
 
 pub write_zeros_spec : {M : Type 1} → statement M

@@ -11,4 +11,4 @@ put_contents_spec =
     (λ c κs. search rules)
     (λ c κs. search rules)
     (λ c. search rules)
-    (λ c. contents_put _ _ _ _ _ _ _ _ _ c.before.before.before.before.before.before.before.before.feed-begin.ensures c.before.before.before.before.before.before.push-contents.ensures c.before.before.feed-end.ensures))
+    (λ c. contents_put _ _ _ _ _ _ _ _ _ c.feed_begin-f.ensures c.push_contents-g.ensures c.feed_end.ensures))

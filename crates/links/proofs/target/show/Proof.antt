@@ -15,9 +15,9 @@ show_spec =
     (λ c κs. search rules)
     (λ c κs. search rules)
     (λ c. search rules)
-    (λ c. filled_short _ _ c.before.before.before.before.before.put-contents.new.0 _ c.before.before.before.before.before.put-contents.auto.0 c.before.before.before.before.before.put-contents.ensures _ c.before.e.given.1)
+    (λ c. filled_short _ _ c.put_contents.new.0 _ c.put_contents.auto.0 c.put_contents.ensures _ c.in-No.is)
     (λ c. search rules)
     (λ c.
-    filled_told c.before.before.before.put-contents2.result _ c.number_at.result _ c.number_at.ensures
-    (filled_written _ _ c.before.before.before.before.before.before.before.before.before.put-contents.new.0 _ c.before.before.before.before.before.before.before.before.before.put-contents.auto.0 c.before.before.before.before.before.before.before.before.before.put-contents.ensures _ c.before.before.before.put-contents2.result c.before.before.before.put-contents2.new.0
-    c.before.before.before.before.before.enum_told.given.1 c.before.before.before.put-contents2.ensures)))
+    filled_told c.put_contents-in-At.result _ c.number_at.result _ c.number_at.ensures
+    (filled_written _ _ c.put_contents.new.0 _ c.put_contents.auto.0 c.put_contents.ensures _ c.put_contents-in-At.result c.put_contents-in-At.new.0
+    c.in-At.is c.put_contents-in-At.ensures)))

@@ -19,9 +19,9 @@ put_mark_spec =
     (λ c. search rules)
     (λ c.
     mark_put _ _ _ _ _ _ _
-    c.before.before.before.before.before.before.before.before.before.before.before.before.before.before.before.before.before.before.before.before.before.before.put-little.ensures
-    c.before.before.before.before.before.before.before.before.before.before.before.before.before.before.before.before.before.put-little2.ensures
-    c.before.before.before.before.before.before.before.before.before.before.before.before.put-little3.ensures
-    c.before.before.before.before.before.before.before.put-little4.ensures
-    c.before.before.put-little5.ensures
-    c.before.before.before.before.before.before.before.before.before.before.before.before.before.before.before.before.before.before.before.before.before.before.before.before.before.requires))
+    c.put_little.ensures
+    c.put_little-2.ensures
+    c.put_little-3.ensures
+    c.put_little-4.ensures
+    c.put_little-5.ensures
+    c.requires))

@@ -14,9 +14,9 @@ show_in_spec =
     (λ c. search rules)
     (λ c κs. search rules)
     (λ c. search rules)
-    (λ c. filled_short _ _ c.before.before.before.before.before.put_record.new.0 _ c.before.before.before.before.before.put_record.auto.0 c.before.before.before.before.before.put_record.ensures _ c.before.e.given.1)
+    (λ c. filled_short _ _ c.put_record.new.out _ c.put_record.auto.out c.put_record.ensures _ c.in-No.is)
     (λ c. search rules)
     (λ c.
-    filled_written _ _ c.before.before.before.before.before.before.before.before.put_record.new.0 _ c.before.before.before.before.before.before.before.before.put_record.auto.0 c.before.before.before.before.before.before.before.before.put_record.ensures _
-    c.before.before.put-record2.result c.before.before.put-record2.new.0 c.before.before.before.before.enum_told.given.1
-    c.before.before.put-record2.ensures))
+    filled_written _ _ c.put_record.new.out _ c.put_record.auto.out c.put_record.ensures _
+    c.put_record-in-At.result c.put_record-in-At.new.out c.in-At.is
+    c.put_record-in-At.ensures))

@@ -14,11 +14,11 @@ use Rattle.tally.proofs.Counting.{count_over, count_no, count_passed, count_next
 use Rattle.tally.proofs.own.count_attributes.Statement.{statement}
 use Rattle.tally.proofs.own.count_attributes.Tie as tie
 
-abbrev invariant-loop : tie.invariant-loop
+abbrev invariant-loop : tie.invariant-loop-c
 invariant-loop image id q keys n₀ s₀ i₀ n s i =
     (cap (n + length (readable (attribute_at q.keys.reader image) (run_at image q s i))) ≡ cap (0 + length (readable (attribute_at q.keys.reader image) (run_at image q s₀ i₀)))) × (n ≤ 2 ^ 64 - 1)
 
-abbrev decreases-loop : tie.decreases-loop
+abbrev decreases-loop : tie.decreases-loop-c
 decreases-loop image id q keys n₀ s₀ i₀ n s i = rest image q s i
 
 ruleset turns = (rules, seens, less_at, less_passed, count_over, count_no, count_passed, count_next, count_small, count_done)
@@ -43,4 +43,4 @@ count_attributes_spec =
     (λ c. search turns)
     (λ c κs. search rules)
     (λ c. search turns)
-    (λ c. (count_next _ _ _ _ _ _ c.before.before.before.before.before.loop.invariant.0 c.before.before.before.before.before.loop.invariant.1 _ c.before.before.before.before.attribute-in.ensures _ _ _ (attribute_one _ _ _ c.before.before.after.given.1) c.add.ensures, count_small _ _ c.add.ensures)))
+    (λ c. (count_next _ _ _ _ _ _ c.loop-c.invariant.0 c.loop-c.invariant.1 _ c.attribute_in.ensures _ _ _ (attribute_one _ _ _ c.in-At.is) c.add-n.ensures, count_small _ _ c.add-n.ensures)))

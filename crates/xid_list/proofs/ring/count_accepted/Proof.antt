@@ -6,10 +6,10 @@ use Rattle.xid_list.proofs.Rings.{numbers_from, counting}
 use Rattle.xid_list.proofs.ring.count_accepted.Statement.{statement}
 use Rattle.xid_list.proofs.ring.count_accepted.Tie as tie
 
-abbrev invariant-loop : tie.invariant-loop
+abbrev invariant-loop : tie.invariant-loop-i
 invariant-loop reader image start ring n₀ i₀ n i = (i ≤ ring) × (start + ring * reader.block_size < 2 ^ 64) × (n ≡ length (numbers_from reader image start ring i))
 
-abbrev decreases-loop : tie.decreases-loop
+abbrev decreases-loop : tie.decreases-loop-i
 decreases-loop reader image start ring n₀ i₀ n i = i
 
 pub count_accepted_spec : {M : Type 1} → statement M

@@ -7,10 +7,10 @@ use Rattle.xid_list.proofs.Rings.{Stored, storing}
 use Rattle.xid_list.proofs.ring.write_accepted.Statement.{statement}
 use Rattle.xid_list.proofs.ring.write_accepted.Tie as tie
 
-abbrev invariant-loop : tie.invariant-loop
+abbrev invariant-loop : tie.invariant-loop-i
 invariant-loop reader image start ring out₀ n₀ i₀ out n i = (i ≤ ring) × (start + ring * reader.block_size < 2 ^ 64) × (length out ≡ length out₀) × (8 * length (numbers_in reader image start ring ring 0) ≤ length out) × Stored reader image start ring out₀ i n out
 
-abbrev decreases-loop : tie.decreases-loop
+abbrev decreases-loop : tie.decreases-loop-i
 decreases-loop reader image start ring out₀ n₀ i₀ out n i = i
 
 pub write_accepted_spec : {M : Type 1} → statement M
