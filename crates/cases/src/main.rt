@@ -1,5 +1,6 @@
 // Document 01's cases, and a sample of calls on sticks: makes each recorded call, and says how many agree.
 #![tactic(auto)]
+
 mod agreement;
 mod at_desk;
 mod image;

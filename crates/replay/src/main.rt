@@ -3,6 +3,7 @@
 // A record is its op (1 byte), a, b and the expected answer (8 bytes each), the input's length (4), the input; numbers are
 // little-endian. Op 0 ends the file.
 #![tactic(auto)]
+
 use byte_fields::Number;
 
 const HEAD: usize = 29;

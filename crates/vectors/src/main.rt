@@ -1,5 +1,6 @@
 // Runs vectors of public documents over the leaves and prints what they give. The file `stdout` has what the documents say.
 #![tactic(auto)]
+
 mod fields;
 mod sums;
 mod texts;

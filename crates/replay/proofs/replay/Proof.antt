@@ -6,10 +6,10 @@ use native.Mathlib.Omega.{arith}
 use Rattle.replay.proofs.replay.Statement.{statement}
 use Rattle.replay.proofs.replay.Tie as tie
 
-abbrev invariant-loop : tie.invariant-loop
+abbrev invariant-loop : tie.invariant-loop-at
 invariant-loop file tally₀ number₀ at₀ tally number at = 0 ≤ at
 
-abbrev decreases-loop : tie.decreases-loop
+abbrev decreases-loop : tie.decreases-loop-at
 decreases-loop file tally₀ number₀ at₀ tally number at = length file - at
 
 pub replay_spec : {M : Type 1} → statement M

@@ -46,4 +46,4 @@ push_stream_spec =
     (λ c κs. search pouring)
     (λ c κs. search pouring)
     (λ c. search pouring)
-    (λ c. (stream_next _ _ _ _ _ _ _ _ _ _ _ _ _ _ _ c.loop-out.invariant.0 _ c.extent_in.ensures _ _ _ _ _ (extent_one _ _ _ c.in-At.is) c.push_step-g.ensures c.next_pos-pos.ensures, c.push_step-g.auto.0 ∙ c.loop-out.invariant.1)))
+    (λ c. (stream_next _ _ _ _ _ _ _ _ _ _ _ _ _ _ _ c.loop-out.invariant.0 _ c.extent_in.ensures _ _ _ _ _ (extent_one _ _ _ c.in-At.is) c.push_step-g.ensures c.next_pos-pos.ensures, c.push_step-g.auto.out ∙ c.loop-out.invariant.1)))

@@ -15,9 +15,9 @@ show_spec =
     (λ c κs. search rules)
     (λ c κs. search rules)
     (λ c. search rules)
-    (λ c. filled_short _ _ c.put_contents.new.0 _ c.put_contents.auto.0 c.put_contents.ensures _ c.in-No.is)
+    (λ c. filled_short _ _ c.put_contents.new.out _ c.put_contents.auto.out c.put_contents.ensures _ c.in-No.is)
     (λ c. search rules)
     (λ c.
     filled_told c.put_contents-in-At.result _ c.number_at.result _ c.number_at.ensures
-    (filled_written _ _ c.put_contents.new.0 _ c.put_contents.auto.0 c.put_contents.ensures _ c.put_contents-in-At.result c.put_contents-in-At.new.0
+    (filled_written _ _ c.put_contents.new.out _ c.put_contents.auto.out c.put_contents.ensures _ c.put_contents-in-At.result c.put_contents-in-At.new.out
     c.in-At.is c.put_contents-in-At.ensures)))

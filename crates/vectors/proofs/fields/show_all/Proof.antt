@@ -3,10 +3,10 @@ use borrow.Author.Rules.{rules}
 use Rattle.vectors.proofs.fields.show_all.Statement.{statement}
 use Rattle.vectors.proofs.fields.show_all.Tie as tie
 
-abbrev invariant-loop : tie.invariant-loop
+abbrev invariant-loop : tie.invariant-loop-off
 invariant-loop width off₀ off = off ≤ 12
 
-abbrev decreases-loop : tie.decreases-loop
+abbrev decreases-loop : tie.decreases-loop-off
 decreases-loop width off₀ off = 12 - off
 
 pub show_all_spec : {M : Type 1} → statement M

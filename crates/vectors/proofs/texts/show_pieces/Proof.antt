@@ -4,10 +4,10 @@ use borrow.Author.Rules.{rules}
 use Rattle.vectors.proofs.texts.show_pieces.Statement.{statement}
 use Rattle.vectors.proofs.texts.show_pieces.Tie as tie
 
-abbrev invariant-loop : tie.invariant-loop
+abbrev invariant-loop : tie.invariant-loop-at
 invariant-loop text at₀ at = at ≤ length text
 
-abbrev decreases-loop : tie.decreases-loop
+abbrev decreases-loop : tie.decreases-loop-at
 decreases-loop text at₀ at = length text - at
 
 pub show_pieces_spec : {M : Type 1} → statement M
