@@ -38,7 +38,7 @@ lone_same bsd c d r = record { label = refl; rule = refl; chains = go }
   where
     go : (x : List ℕ) → Agree (lone bsd c r) (lone bsd d r) (chain (lone bsd c r) x) (chain (lone bsd d r) x)
     go [] = on (small_inode bsd 2) refl refl refl refl (λ off len. refl)
-    go (k ∷ x) = past (follow_nowhere _ x) (follow_nowhere _ x)
+    go (k ∷ x) = past (follow_nowhere (lone bsd c r) x) (follow_nowhere (lone bsd d r) x)
 
 -- 1. Both listings must be without refusal. An empty file whose extents overlap: it reads as any empty file, the volumes are the same,
 -- the law of reads holds of both, and one is listed and the other refused.

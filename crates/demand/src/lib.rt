@@ -1,5 +1,6 @@
 // The third demand: what an opened volume answers, its listing, and that the one goes by the other. All but a number is theory: specs/ and proofs/.
 #![tactic(auto)]
+
 ghost use Rattle.std.specs.Prelude.{◌≡◌};
 ghost use Rattle.demand.specs.Listing.{levels};
 

@@ -8,7 +8,6 @@ use lib.Seq.{drop-cons}
 use native.Mathlib.Omega.{arith}
 use native.Mathlib.Numerals.{add-one}
 use Rattle.error.specs.Answer.{if_le}
-
 use Rattle.error.proofs.Laws.{at_most_lem, above, same, other, le_cases}
 use Rattle.utf8.specs.Text.{same_bytes, rest_of, piece_of, size_of, shown, lossy}
 use Rattle.utf8.specs.declared.Piece.{Piece}

@@ -7,7 +7,6 @@ use lib.ListN.{length, get_or, take, drop, length-drop, drop_of_length-le}
 use lib.Seq.{drop-cons, drop-drop}
 use native.Mathlib.Omega.{arith}
 use native.Mathlib.Numerals.{add-one}
-
 use borrow.Author.Tests.{not-true, not-false}
 use Rattle.error.specs.Answer.{pick, if_eq}
 use Rattle.error.proofs.Laws.{eq_cases}

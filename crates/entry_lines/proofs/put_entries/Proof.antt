@@ -13,12 +13,12 @@ use Rattle.entry_lines.proofs.Fitting.{writes, walks, lines_over, lines_no, line
 use Rattle.entry_lines.proofs.put_entries.Statement.{statement}
 use Rattle.entry_lines.proofs.put_entries.Tie as tie
 
-abbrev invariant-loop : tie.invariant-loop
+abbrev invariant-loop : tie.invariant-loop-c
 invariant-loop out₀ room image id place q keys reader n₀ left₀ s₀ i₀ out n left s i =
     (writes reader image room n left (readable (entry_at q.keys.hashed q.keys.reader image) (run_at image q s i)) out ≡ puts room (fitting room (lines_of reader image (drop place (readable (entry_at q.keys.hashed q.keys.reader image) (run_at image q s₀ i₀))))) (at out₀ 0))
     × (n ≤ room) × (length out ≡ length out₀)
 
-abbrev decreases-loop : tie.decreases-loop
+abbrev decreases-loop : tie.decreases-loop-c
 decreases-loop out₀ room image id place q keys reader n₀ left₀ s₀ i₀ out n left s i = rest image q s i
 
 pub put_entries_spec : {M : Type 1} → statement M
@@ -32,20 +32,20 @@ put_entries_spec =
     (λ c κs. search walks)
     (λ c. search walks)
     (λ c. search walks)
-    (λ c. lines_done c.before.before.before.before.before.before.before.before.before.args.image.now c.before.before.before.before.before.before.before.before.before.args.v _ c.before.before.before.before.before.before.before.before.before.args.place _ _ c.before.before.before.before.before.before.before.before.before.args.start c.before.before.before.before.before.before.before.before.before.args.out.now _ c.before.before.before.before.before.before.search.ensures (lines_over _ _ _ _ _ _ _ _ _ _ c.before.before.before.loop.invariant.0 _ c.before.before.entry_in.ensures (search seens)))
+    (λ c. lines_done c.args.image.now c.args.v _ c.args.place _ _ c.args.start c.args.out.now _ c.search-q.ensures (lines_over _ _ _ _ _ _ _ _ _ _ c.loop-c.invariant.0 _ c.entry_in.ensures (search seens)))
     (λ c. search walks)
     (λ c. search walks)
-    (λ c. lines_done c.before.before.before.before.before.before.before.before.before.args.image.now c.before.before.before.before.before.before.before.before.before.args.v _ c.before.before.before.before.before.before.before.before.before.args.place _ _ c.before.before.before.before.before.before.before.before.before.args.start c.before.before.before.before.before.before.before.before.before.args.out.now _ c.before.before.before.before.before.before.search.ensures (lines_no _ _ _ _ _ _ _ _ _ _ c.before.before.before.loop.invariant.0 _ c.before.before.entry_in.ensures _ (entry_refused _ _ c.enum-told2.given.1)))
-    (λ c. search walks)
-    (λ c κs. search walks)
-    (λ c. search walks)
-    (λ c. search walks)
+    (λ c. lines_done c.args.image.now c.args.v _ c.args.place _ _ c.args.start c.args.out.now _ c.search-q.ensures (lines_no _ _ _ _ _ _ _ _ _ _ c.loop-c.invariant.0 _ c.entry_in.ensures _ (entry_refused _ _ c.in-No.is)))
     (λ c. search walks)
     (λ c κs. search walks)
     (λ c. search walks)
     (λ c. search walks)
-    (λ c. lines_done c.before.before.before.before.before.before.before.before.before.before.before.before.before.before.before.before.args.image.now c.before.before.before.before.before.before.before.before.before.before.before.before.before.before.before.before.args.v _ c.before.before.before.before.before.before.before.before.before.before.before.before.before.before.before.before.args.place _ _ c.before.before.before.before.before.before.before.before.before.before.before.before.before.before.before.before.args.start c.before.before.before.before.before.before.before.before.before.before.before.before.before.before.before.before.args.out.now _ c.before.before.before.before.before.before.before.before.before.before.before.before.before.search.ensures (lines_full _ _ _ _ _ _ _ _ _ _ c.before.before.before.before.before.before.before.before.before.before.loop.invariant.0 _ c.before.before.before.before.before.before.before.before.before.entry_in.ensures _ _ (entry_one _ _ _ c.before.before.before.before.before.before.before.e.given.1) c.before.before.before.before.before.before.before.before.before.before.loop.invariant.1 _ _ c.before.before.before.before.put_next.ensures _ c.enum-told4.given.1))
     (λ c. search walks)
     (λ c κs. search walks)
     (λ c. search walks)
-    (λ c. (lines_next _ _ _ _ _ _ _ _ _ _ c.before.before.before.before.before.before.before.before.before.before.before.before.loop.invariant.0 _ c.before.before.before.before.before.before.before.before.before.before.before.entry_in.ensures _ _ (entry_one _ _ _ c.before.before.before.before.before.before.before.before.before.e.given.1) c.before.before.before.before.before.before.before.before.before.before.before.before.loop.invariant.1 _ _ c.before.before.before.before.before.before.put_next.ensures _ _ c.before.before.m.given.1 c.fewer.ensures, search walks, search walks)))
+    (λ c. search walks)
+    (λ c. lines_done c.args.image.now c.args.v _ c.args.place _ _ c.args.start c.args.out.now _ c.search-q.ensures (lines_full _ _ _ _ _ _ _ _ _ _ c.loop-c.invariant.0 _ c.entry_in.ensures _ _ (entry_one _ _ _ c.in-At.is) c.loop-c.invariant.1 _ _ c.put_next.ensures _ c.in-No-put_next.is))
+    (λ c. search walks)
+    (λ c κs. search walks)
+    (λ c. search walks)
+    (λ c. (lines_next _ _ _ _ _ _ _ _ _ _ c.loop-c.invariant.0 _ c.entry_in.ensures _ _ (entry_one _ _ _ c.in-At.is) c.loop-c.invariant.1 _ _ c.put_next.ensures _ _ c.in-At-put_next.is c.fewer-left.ensures, search walks, search walks)))

@@ -14,7 +14,7 @@ put_next_spec =
     (λ c. search rules)
     (λ c κs. search rules)
     (λ c. search rules)
-    (λ c. next_direct _ _ _ c.before.before.before.before.before.before.before.before.before.before.args.e _ _ _ _ c.before.before.put-entry-line.result _ (search rules) (search rules) (search rules) (search rules) c.before.before.before.before.before.before.before.before.before.before.requires (search rules) c.before.before.before.before.before.entry-name.ensures (search rules) c.before.before.put-entry-line.ensures)
+    (λ c. next_direct _ _ _ c.args.e _ _ _ _ c.put_entry_line.result _ (search rules) (search rules) (search rules) (search rules) c.requires (search rules) c.entry_name.ensures (search rules) c.put_entry_line.ensures)
     (λ c. search rules)
     (λ c. search rules)
     (λ c κs. search rules)

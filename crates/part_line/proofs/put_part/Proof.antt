@@ -17,7 +17,7 @@ put_part_spec =
     (λ c κs. search rules)
     (λ c. search rules)
     (λ c.
-    then_literal _ _ _ _ _ _ c.put_all.ensures refl
+    then_literal _ _ _ _ _ _ c.put_all-a.ensures refl
     (then_digits _ _ _ _ _ _ c.put_decimal-b.ensures
     (then_byte _ _ _ _ _ _ c.put_all-c.ensures
     (then_digits _ _ _ _ _ _ c.put_decimal-d.ensures c.put_all.ensures)))))

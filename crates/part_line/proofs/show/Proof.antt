@@ -14,9 +14,9 @@ show_spec =
     (λ c. search rules)
     (λ c κs. search rules)
     (λ c. search rules)
-    (λ c. filled_short _ _ c.put_part.new.0 _ c.put_part.auto.0 c.put_part.ensures _ c.in-No.is)
+    (λ c. filled_short _ _ c.put_part.new.out _ c.put_part.auto.out c.put_part.ensures _ c.in-No.is)
     (λ c. search rules)
     (λ c.
-    filled_written _ _ c.put_part.new.0 _ c.put_part.auto.0 c.put_part.ensures _
-    c.put_part-in-At.result c.put_part-in-At.new.0 c.in-At.is
+    filled_written _ _ c.put_part.new.out _ c.put_part.auto.out c.put_part.ensures _
+    c.put_part-in-At.result c.put_part-in-At.new.out c.in-At.is
     c.put_part-in-At.ensures))

@@ -14,6 +14,6 @@ show_entry_spec =
     (λ c. search rules)
     (λ c κs. search rules)
     (λ c. search rules)
-    (λ c. filled_short _ _ c.before.before.before.before.before.put-entry-line.new.0 _ c.before.before.before.before.before.put-entry-line.auto.0 c.before.before.before.before.before.put-entry-line.ensures _ c.before.w.given.1)
+    (λ c. filled_short _ _ c.put_entry_line.new.out _ c.put_entry_line.auto.out c.put_entry_line.ensures _ c.in-No.is)
     (λ c. search rules)
-    (λ c. filled_written _ _ c.before.before.before.before.before.before.before.before.put-entry-line.new.0 _ c.before.before.before.before.before.before.before.before.put-entry-line.auto.0 c.before.before.before.before.before.before.before.before.put-entry-line.ensures _ c.before.before.put-entry-line2.result c.before.before.put-entry-line2.new.0 c.before.before.before.before.enum_told.given.1 c.before.before.put-entry-line2.ensures))
+    (λ c. filled_written _ _ c.put_entry_line.new.out _ c.put_entry_line.auto.out c.put_entry_line.ensures _ c.put_entry_line-in-At.result c.put_entry_line-in-At.new.out c.in-At.is c.put_entry_line-in-At.ensures))

@@ -12,10 +12,10 @@ use Rattle.forms.proofs.Walking.{walks, attributes_next}
 use Rattle.forms.proofs.attributes.put_attributes.Statement.{statement}
 use Rattle.forms.proofs.attributes.put_attributes.Tie as tie
 
-abbrev invariant-loop : tie.invariant-loop
+abbrev invariant-loop : tie.invariant-loop-o
 invariant-loop out₀ room image v id q keys o₀ s₀ i₀ out o s i = (go room (attribute_courses image v (readable (attribute_at q.keys.reader image) (run_at image q s i))) (stand_of o out) ≡ go room (attribute_courses image v (readable (attribute_at q.keys.reader image) (run_at image q s₀ i₀))) (stand_of o₀ out₀)) × (length out ≡ length out₀)
 
-abbrev decreases-loop : tie.decreases-loop
+abbrev decreases-loop : tie.decreases-loop-o
 decreases-loop out₀ room image v id q keys o₀ s₀ i₀ out o s i = rest image q s i
 
 pub put_attributes_spec : {M : Type 1} → statement M
@@ -44,4 +44,4 @@ put_attributes_spec =
     (λ c. search walks)
     (λ c κs. search walks)
     (λ c. search walks)
-    (λ c. (attributes_next _ _ c.before.before.before.before.before.before.before.before.before.before.before.before.before.before.before.args.v _ _ _ _ _ c.before.before.before.before.before.before.before.before.before.before.loop.invariant.0 _ c.before.before.before.before.before.before.before.attribute-in.ensures _ _ _ (search seens) c.before.before.put-attribute.ensures, search rules)))
+    (λ c. (attributes_next _ _ c.args.v _ _ _ _ _ c.loop-o.invariant.0 _ c.attribute_in.ensures _ _ _ (search seens) c.put_attribute-o.ensures, search rules)))

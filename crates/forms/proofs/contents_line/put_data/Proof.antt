@@ -10,7 +10,6 @@ put_data_spec =
     (λ c. search rules)
     (λ c. search all)
     (λ c. search rules)
-    (λ c. search rules)
     (λ c κs. search rules)
     (λ c. search rules)
     (λ c. search all)

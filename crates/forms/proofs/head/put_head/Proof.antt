@@ -17,7 +17,7 @@ put_head_spec =
     (λ c κs. search rules)
     (λ c κs. search rules)
     (λ c κs. search rules)
-    (λ c κs. c.before.before.before.before.before.before.before.before.before.before.before.before.before.before.before.before.requires)
+    (λ c κs. c.requires)
     (λ c. search rules)
-    (λ c. let a : Progress = record { at = c.before.before.before.before.before.before.before.before.before.before.before.before.before.before.put-node-line.result; nodes = c.before.before.before.before.before.before.before.before.before.before.before.before.before.before.before.before.before.before.before.args.p.nodes } in
-    head_all _ _ _ _ _ _ a _ c.before.before.before.before.before.before.before.before.before.before.before.before.before.before.put-node-line.ensures refl c.before.before.before.before.before.before.before.before.before.list_on.result c.before.before.before.before.before.before.before.before.read-lists.result _ _ c.before.before.before.before.before.before.before.before.before.list_on.ensures c.before.before.before.before.before.before.before.before.read-lists.ensures c.before.before.before.before.before.before.put-attributes.ensures c.before.before.put-data.ensures))
+    (λ c. let a : Progress = record { at = c.put_node_line.result; nodes = c.args.p.nodes } in
+    head_all _ _ _ _ _ _ a _ c.put_node_line.ensures refl c.list_on-attributes.result c.read_lists-b.result _ _ c.list_on-attributes.ensures c.read_lists-b.ensures c.put_attributes-c.ensures c.put_data.ensures))

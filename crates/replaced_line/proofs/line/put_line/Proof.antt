@@ -10,10 +10,8 @@ unfolding replaced_line
 put_line_spec =
     tie.close
     (tie.spec
-    (λ c. search rules)
     (λ c κs. search rules)
     (λ c κs. search rules)
-    (λ c. search rules)
     (λ c κs. search rules)
     (λ c. search rules)
-    (λ c. then_literal _ _ _ _ _ _ c.before.before.before.before.before.before.before.before.before.before.before.put_all_lem.ensures refl (then_digits _ _ _ _ _ _ c.before.before.before.before.before.before.before.put-decimal.ensures c.before.before.put-all2.ensures)))
+    (λ c. then_literal _ _ _ _ _ _ c.put_all-a.ensures refl (then_digits _ _ _ _ _ _ c.put_decimal-b.ensures c.put_all.ensures)))
