@@ -5,7 +5,7 @@ ghost use Rattle.keys.specs.Told.{character_of};
 
 use utf8::{Piece, next};
 
-// A character, U+FFFD for an ill_formed part, and how many bytes it takes.
+// A character, U+FFFD for an ill-formed part, and how many bytes it takes.
 #[derive(Clone, Copy)]
 pub enum Character {
     End,

@@ -51,7 +51,7 @@ fn is_covered(c: u32) -> bool
     false
 }
 
-// Whether every character of a name is covered, one after the other. An ill_formed part is U+FFFD, which is not.
+// Whether every character of a name is covered, one after the other. An ill-formed part is U+FFFD, which is not.
 pub fn each_covered(b: &[u8]) -> bool
     ensures { result ≡ covered_text b.now }
 {

@@ -1,4 +1,4 @@
--- As callers see it: where the object map of a container, or of a volume, is well_formed, what is found through it is what a walk over all its entries
+-- As callers see it: where the object map of a container, or of a volume, is well-formed, what is found through it is what a walk over all its entries
 -- finds. Document 02, request 14: "trust the object map as they do the listing".
 use Prim.Native.Nat.{ℕ}
 use mathlib.Core.Path.{◌≡◌, refl, ap, ◌∙◌}

@@ -1,4 +1,4 @@
--- The walk over all entries of a tree, leaf after leaf, and well_formed trees. Document 02, request 14.
+-- The walk over all entries of a tree, leaf after leaf, and well-formed trees. Document 02, request 14.
 use Rattle.std.specs.Prelude.{ℕ, zero, suc, ◌+◌, ◌≡◌, List, [], ◌∷◌, ◌++◌}
 use Rattle.std.proofs.Math.Option.{Option, none, some}
 use Rattle.error.specs.Answer.{Answer, got, no, ◌>>=◌, pick, if_eq}

@@ -1,5 +1,5 @@
 -- Names. Document 01, "What must change shape": "a name comes back as the part of the image that holds it", and bytes.rs: "up to the first zero byte
--- or the end"; document 02, request 02: "the number of ill_formed parts it replaced".
+-- or the end"; document 02, request 02: "the number of ill-formed parts it replaced".
 use Rattle.std.specs.Prelude.{ℕ, List, length}
 use Rattle.byte_fields.specs.Part.{part_of, up_to_zero}
 use Rattle.byte_fields.specs.declared.Span.{Span}

@@ -46,7 +46,7 @@ syllables : key_of true (0xEC ∷ 0xA0 ∷ 0x95 ∷ 0xEA ∷ 0xB0 ∷ 0x80 ∷ [
 unfolding key_of flat fold canonical place if_reorderable decompose hangul in_rows class_of lower lower_one characters characters_in scalar_of piece_of rest_of agree if_in if_le if_eq
 syllables = refl
 
--- U+0304 is covered and U+0305 is not; nor is an ill_formed part
+-- U+0304 is covered and U+0305 is not; nor is an ill-formed part
 last_mark : covered_text (0xCC ∷ 0x84 ∷ []) ≡ true
 unfolding covered_text all_covered any_in characters characters_in scalar_of piece_of rest_of agree if_in if_le if_eq
 last_mark = refl
