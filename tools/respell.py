@@ -66,11 +66,17 @@ def names(files):
 def spelling(own, taken):
     """The new name of each name that changes."""
     wanted = collections.defaultdict(list)
+    operators = {}
+    for name in own:
+        m = re.fullmatch("\u25cc([a-z]\\w*)\u25cc", name)
+        if m and snake(m.group(1)) != m.group(1):
+            operators[name] = "\u25cc" + snake(m.group(1)) + "\u25cc"
+            operators[m.group(1)] = snake(m.group(1))
     for name in own:
         if name in taken or MADE.match(name) or not name[0].islower() or snake(name) == name:
             continue
         wanted[snake(name)].append(name)
-    new = dict(CHOSEN)
+    new = dict(CHOSEN) | operators
     for to, group in wanted.items():
         function = [n for n in group if "-" not in n]
         for name in group:

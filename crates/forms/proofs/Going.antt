@@ -19,7 +19,7 @@ use Rattle.calls.specs.Nodes.{capped}
 use Rattle.calls.specs.declared.Progress.{Progress}
 use Rattle.calls.proofs.Counts.{plus_none}
 use Rattle.demand.specs.Trace.{End, done, stop, Trace}
-use Rattle.forms.specs.Course.{Deed, through, line, Course, writes, goes_on, ◌andThen◌, read_as, readings, text_in, trace_in, spent}
+use Rattle.forms.specs.Course.{Deed, through, line, Course, writes, goes_on, ◌and_then◌, read_as, readings, text_in, trace_in, spent}
 use Rattle.forms.specs.Inner.{ending, run, Stand, stand_of, unless_refused, passes, deed, go_through, ended_with, go, end_of, reads, settled}
 
 abbrev over : Refusal → ℕ → Stand
@@ -51,7 +51,7 @@ go_stopped room c e (at b k) n = go_shut room c e n
 go_stopped room c e (refused w) n = go_shut room c w n
 
 pub go_then : (room : ℕ) (c d : Course) (p : Stand) → go room (c and_then d) p ≡ go room d (go room c p)
-unfolding go ◌andThen◌
+unfolding go ◌and_then◌
 go_then room c d p = of c.ended
   where
     of : (x : End) → ended_with (goes_on c.deeds x d).ended (go_through room (goes_on c.deeds x d).deeds p)
@@ -177,7 +177,7 @@ last_line room (through n ∷ ds) t s = last_line room ds t (capped (s + n))
 last_line room (line x ∷ ds) t s = ap (λ (k : ℕ). if_le (length x) room k s) (last_line (room - length x) ds t s)
 
 pub spent_last : (room : ℕ) (c : Course) (t : List ℕ) (s : ℕ) → spent room (c and_then writes t).deeds s ≡ spent room c.deeds s
-unfolding ◌andThen◌
+unfolding ◌and_then◌
 spent_last room c t s = of c.ended
   where
     of : (e : End) → spent room (goes_on c.deeds e (writes t)).deeds s ≡ spent room c.deeds s

@@ -36,7 +36,7 @@ use Rattle.streams.specs.Streams.{settled_told}
 use Rattle.streams.specs.declared.settle.Settled.{Settled}
 use Rattle.lines.specs.Shown.{inode_shown}
 use Rattle.lines.specs.Lines.{node_line}
-use Rattle.forms.specs.Course.{Course, writes, readings, ◌andThen◌, attribute_courses, data_course}
+use Rattle.forms.specs.Course.{Course, writes, readings, ◌and_then◌, attribute_courses, data_course}
 use Rattle.forms.specs.Inner.{Stand, stand_of, go, reads, settled, head_course}
 use Rattle.forms.proofs.Going.{go_then, go_writes, read_got, read_no, reads_stays, reads_over, reads_settled, stays_no}
 use Rattle.forms.proofs.After.{reads_shut}

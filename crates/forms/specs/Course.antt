@@ -45,9 +45,9 @@ abbrev pub goes_on : List Deed → End → Course → Course
 goes_on ds done d = record { deeds = ds ++ d.deeds; ended = d.ended }
 goes_on ds (stop e) d = record { deeds = ds; ended = stop e }
 
-infixr 50 ◌andThen◌
+infixr 50 ◌and_then◌
 -- the one and, where it was done, the other
-unfoldable pub ◌andThen◌ : Course → Course → Course
+unfoldable pub ◌and_then◌ : Course → Course → Course
 c and_then d = goes_on c.deeds c.ended d
 
 abbrev pub read_as : {A : Type 0} → Answer A → (A → Course) → Course

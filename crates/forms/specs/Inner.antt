@@ -22,7 +22,7 @@ use Rattle.lines.specs.Shown.{inode_shown, attribute_shown, plain}
 use Rattle.lines.specs.Lines.{node_line, attribute_line, contents_line}
 use Rattle.demand.specs.Trace.{done, stop, Trace}
 use Rattle.demand.specs.Trace as trace
-use Rattle.forms.specs.Course.{Deed, through, line, Course, writes, ◌andThen◌, readings, attribute_courses, data_course}
+use Rattle.forms.specs.Course.{Deed, through, line, Course, writes, ◌and_then◌, readings, attribute_courses, data_course}
 
 -- ---- a trace written into a lent buffer
 

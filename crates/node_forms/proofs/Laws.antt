@@ -38,7 +38,7 @@ use Rattle.lines.specs.Shown.{inode_shown, entry_shown}
 use Rattle.lines.specs.Lines.{node_line, entry_line, close}
 use Rattle.demand.specs.Trace.{stop}
 use Rattle.demand.proofs.Inodes.{inode_placed}
-use Rattle.forms.specs.Course.{Course, writes, readings, ◌andThen◌, attribute_courses, data_course, entry_course, entry_courses, node_course}
+use Rattle.forms.specs.Course.{Course, writes, readings, ◌and_then◌, attribute_courses, data_course, entry_course, entry_courses, node_course}
 use Rattle.forms.specs.Inner.{ending, Stand, stand_of, go_through, go, reads, head_course}
 use Rattle.forms.proofs.Going.{go_then, go_writes, read_got, read_no, reads_stays, stays_no}
 

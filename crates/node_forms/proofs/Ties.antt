@@ -28,7 +28,7 @@ use Rattle.lists.specs.Lists.{root_id}
 use Rattle.totals.specs.Totals.{totals_of}
 use Rattle.demand.specs.Demand.{label_shown, view_of, with_contents, inode_answer, entries_answer, attributes_answer, contents_answer}
 use Rattle.demand.proofs.Inodes.{inode_placed}
-use Rattle.forms.specs.Course.{Deed, through, line, Course, writes, goes_on, ◌andThen◌, read_as, passing, readings, attribute_course, attribute_courses, data_course, entry_course, entry_courses, node_course, body_course, course_of, text_in, trace_in}
+use Rattle.forms.specs.Course.{Deed, through, line, Course, writes, goes_on, ◌and_then◌, read_as, passing, readings, attribute_course, attribute_courses, data_course, entry_course, entry_courses, node_course, body_course, course_of, text_in, trace_in}
 use Rattle.node_forms.specs.Tie.{Tied}
 
 text_append : (ds es : List Deed) → text_in (ds ++ es) ≡ text_in ds ++ text_in es
@@ -38,7 +38,7 @@ text_append (through n ∷ ds) es = text_append ds es
 text_append (line t ∷ ds) es = ap (λ (x : List ℕ). t ++ x) (text_append ds es) ∙ sym (append_assoc t (text_in ds) (text_in es))
 
 trace_then : (c d : Course) → trace_in (c and_then d) ≡ trace_in c then trace_in d
-unfolding ◌andThen◌ ◌then◌
+unfolding ◌and_then◌ ◌then◌
 trace_then c d = of c.ended
   where
     of : (x : End) → trace_in (goes_on c.deeds x d) ≡ go_on (text_in c.deeds) x (trace_in d)

@@ -14,6 +14,6 @@ show_embedded_spec =
     (λ c. search rules)
     (λ c κs. search rules)
     (λ c. search rules)
-    (λ c. filled_short _ _ c.before.before.before.before.before.put-attribute-embedded.new.0 _ c.before.before.before.before.before.put-attribute-embedded.auto.0 c.before.before.before.before.before.put-attribute-embedded.ensures _ c.before.w.given.1)
+    (λ c. filled_short _ _ c.put_attribute_embedded.new.out _ c.put_attribute_embedded.auto.out c.put_attribute_embedded.ensures _ c.in-No.is)
     (λ c. search rules)
-    (λ c. filled_written _ _ c.before.before.before.before.before.before.before.before.put-attribute-embedded.new.0 _ c.before.before.before.before.before.before.before.before.put-attribute-embedded.auto.0 c.before.before.before.before.before.before.before.before.put-attribute-embedded.ensures _ c.before.before.put-attribute-embedded2.result c.before.before.put-attribute-embedded2.new.0 c.before.before.before.before.enum_told.given.1 c.before.before.put-attribute-embedded2.ensures))
+    (λ c. filled_written _ _ c.put_attribute_embedded.new.out _ c.put_attribute_embedded.auto.out c.put_attribute_embedded.ensures _ c.put_attribute_embedded-in-At.result c.put_attribute_embedded-in-At.new.out c.in-At.is c.put_attribute_embedded-in-At.ensures))

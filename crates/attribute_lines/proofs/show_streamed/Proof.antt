@@ -14,6 +14,6 @@ show_streamed_spec =
     (λ c. search rules)
     (λ c κs. search rules)
     (λ c. search rules)
-    (λ c. filled_short _ _ c.before.before.before.before.before.put-streamed.new.0 _ c.before.before.before.before.before.put-streamed.auto.0 c.before.before.before.before.before.put-streamed.ensures _ c.before.w.given.1)
+    (λ c. filled_short _ _ c.put_streamed.new.out _ c.put_streamed.auto.out c.put_streamed.ensures _ c.in-No.is)
     (λ c. search rules)
-    (λ c. filled_written _ _ c.before.before.before.before.before.before.before.before.put-streamed.new.0 _ c.before.before.before.before.before.before.before.before.put-streamed.auto.0 c.before.before.before.before.before.before.before.before.put-streamed.ensures _ c.before.before.put-streamed2.result c.before.before.put-streamed2.new.0 c.before.before.before.before.enum_told.given.1 c.before.before.put-streamed2.ensures))
+    (λ c. filled_written _ _ c.put_streamed.new.out _ c.put_streamed.auto.out c.put_streamed.ensures _ c.put_streamed-in-At.result c.put_streamed-in-At.new.out c.in-At.is c.put_streamed-in-At.ensures))

@@ -7,7 +7,6 @@ pub put_close_spec : {M : Type 1} → statement M
 put_close_spec =
     tie.close
     (tie.spec
-    (λ c. search rules)
     (λ c κs. search rules)
     (λ c. search rules)
     (λ c. search nodes))
