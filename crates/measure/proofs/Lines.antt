@@ -20,16 +20,16 @@ use Rattle.measure.specs.declared.gauge.Measured.{Measured}
 use Rattle.measure.specs.declared.gauge.Gauged.{Gauged}
 use Rattle.measure.specs.Line.{measured_told, numbers_line, measure_line, volume_text, measure_text, measured_on, measure_counted}
 
-module _ (image : List ℕ) (v : Volume) (s : ℕ) (out : List ℕ) (r : Gauged) (p : measured_told r.decreases ≡ measured (view_of image v)) (k : r.nodes ≡ nodes_into most image v s) where
+module _ (image : List ℕ) (v : Volume) (s : ℕ) (out : List ℕ) (r : Gauged) (p : measured_told r.measured ≡ measured (view_of image v)) (k : r.nodes ≡ nodes_into most image v s) where
   on_volume_lem : (x : Filled) → x ≡ filled_by (volume_text (view_of image v)) out → ◌≡◌ {A = Answered} (record { nodes = r.nodes; result = x }) (answered (measured_on image v s) out)
   unfolding measured_on
   on_volume_lem x h = λ i. record { nodes = k i; result = h i }
 
-  pub line_got : (n d : ℕ) (z : Filled) → r.decreases ≡ Measured.Got n d → z ≡ filled (numbers_line n d []) out → ◌≡◌ {A = Answered} (record { nodes = r.nodes; result = z }) (answered (measured_on image v s) out)
+  pub line_got : (n d : ℕ) (z : Filled) → r.measured ≡ Measured.Got n d → z ≡ filled (numbers_line n d []) out → ◌≡◌ {A = Answered} (record { nodes = r.nodes; result = z }) (answered (measured_on image v s) out)
   unfolding volume_text
   line_got n d z q h = on_volume_lem z (rw (← p, q) h)
 
-  pub line_no : (e : Refusal) → r.decreases ≡ Measured.No e → ◌≡◌ {A = Answered} (record { nodes = r.nodes; result = filled_at (No e) out }) (answered (measured_on image v s) out)
+  pub line_no : (e : Refusal) → r.measured ≡ Measured.No e → ◌≡◌ {A = Answered} (record { nodes = r.nodes; result = filled_at (No e) out }) (answered (measured_on image v s) out)
   unfolding volume_text
   line_no e q = on_volume_lem (filled_at (No e) out) (rw (← p, q))
 

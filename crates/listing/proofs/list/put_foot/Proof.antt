@@ -8,7 +8,6 @@ put_foot_spec =
     tie.close
     (tie.spec
     (λ c κs. search all)
-    (λ c. search all)
     (λ c κs. search all)
     (λ c. search all)
     (λ c. search all))

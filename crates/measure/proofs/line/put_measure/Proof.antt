@@ -10,17 +10,14 @@ unfolding numbers_line
 put_measure_spec =
     tie.close
     (tie.spec
-    (λ c. search rules)
     (λ c κs. search rules)
     (λ c κs. search rules)
-    (λ c. search rules)
     (λ c κs. search rules)
     (λ c κs. search rules)
-    (λ c. search rules)
     (λ c κs. search rules)
     (λ c. search rules)
     (λ c.
-    then_literal _ _ _ _ _ _ c.before.before.before.before.before.before.before.before.before.before.before.before.before.before.before.before.before.before.before.before.put_all_lem.ensures refl
-    (then_digits _ _ _ _ _ _ c.before.before.before.before.before.before.before.before.before.before.before.before.before.before.before.before.put-decimal.ensures
-    (then_byte _ _ _ _ _ _ c.before.before.before.before.before.before.before.before.before.before.before.put-all2.ensures
-    (then_digits _ _ _ _ _ _ c.before.before.before.before.before.before.before.put-decimal2.ensures c.before.before.put-all3.ensures)))))
+    then_literal _ _ _ _ _ _ c.put_all-a.ensures refl
+    (then_digits _ _ _ _ _ _ c.put_decimal-b.ensures
+    (then_byte _ _ _ _ _ _ c.put_all-c.ensures
+    (then_digits _ _ _ _ _ _ c.put_decimal-d.ensures c.put_all.ensures)))))

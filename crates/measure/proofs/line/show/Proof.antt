@@ -14,9 +14,9 @@ show_spec =
     (λ c. search rules)
     (λ c κs. search rules)
     (λ c. search rules)
-    (λ c. filled_short _ _ c.before.before.before.before.before.put-measure.new.0 _ c.before.before.before.before.before.put-measure.auto.0 c.before.before.before.before.before.put-measure.ensures _ c.before.e.given.1)
+    (λ c. filled_short _ _ c.put_measure.new.out _ c.put_measure.auto.out c.put_measure.ensures _ c.in-No.is)
     (λ c. search rules)
     (λ c.
-    filled_written _ _ c.before.before.before.before.before.before.before.before.put-measure.new.0 _ c.before.before.before.before.before.before.before.before.put-measure.auto.0 c.before.before.before.before.before.before.before.before.put-measure.ensures _
-    c.before.before.put-measure2.result c.before.before.put-measure2.new.0 c.before.before.before.before.enum_told.given.1
-    c.before.before.put-measure2.ensures))
+    filled_written _ _ c.put_measure.new.out _ c.put_measure.auto.out c.put_measure.ensures _
+    c.put_measure-in-At.result c.put_measure-in-At.new.out c.in-At.is
+    c.put_measure-in-At.ensures))
