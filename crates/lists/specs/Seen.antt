@@ -1,5 +1,5 @@
 -- An element of a list, read by g from the next record of a leaf; the shape of the loops over a list, on which no promise to a caller rests.
--- A list gone through so is `list_of` (`List-over`, `list_at`, `list_passed` and `list_no`, proofs/Reading.antt).
+-- A list gone through so is `list_of` (`list_over`, `list_at`, `list_passed` and `list_no`, proofs/Reading.antt).
 use Rattle.std.specs.Prelude.{ℕ}
 use Rattle.error.specs.Answer.{Answer, got, no}
 use Rattle.error.specs.declared.Refusal.{Refusal}

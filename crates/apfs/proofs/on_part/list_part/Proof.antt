@@ -18,6 +18,6 @@ list_part_spec =
     (λ c κs. search rules)
     (λ c κs. search listed)
     (λ c. search rules)
-    (λ c. rw (← c.before.before.before.before.before.before.before.before.before.part-of-image.ensures, c.before.before.before.before.before.before.before.s.given.1, ← c.before.before.before.before.before.part.ensures) (search listed))
+    (λ c. rw (← c.part_of_image.ensures, c.in-Got.is, ← c.part.ensures) (search listed))
     (λ c. search rules)
-    (λ c. rw (← c.before.before.before.before.before.before.before.before.part-of-image.ensures, c.before.before.before.before.before.before.e.given.1) (search listed)))
+    (λ c. rw (← c.part_of_image.ensures, c.in-No.is) (search listed)))

@@ -15,5 +15,5 @@ xattr_bytes_part_spec =
     (λ c. search rules)
     (λ c κs. search rules)
     (λ c. search rules)
-    (λ c. rw (← c.before.before.before.before.before.before.before.before.before.part-of-image.ensures, c.before.before.before.before.before.before.before.s.given.1, ← c.before.before.before.before.before.part.ensures) (search ends))
-    (λ c. rw (← c.before.before.before.before.part-of-image.ensures, c.before.before.e.given.1) (search ends)))
+    (λ c. rw (← c.part_of_image.ensures, c.in-Got.is, ← c.part.ensures) (search ends))
+    (λ c. rw (← c.part_of_image.ensures, c.in-No.is) (search ends)))

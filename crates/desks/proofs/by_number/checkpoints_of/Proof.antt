@@ -13,5 +13,5 @@ checkpoints_of_spec =
     (λ c κs. search rules)
     (λ c. search rules)
     (λ c. search rules)
-    (λ c. rw (← c.before.before.before.before.before.before.before.before.part-of-image.ensures, c.before.before.before.before.before.before.s.given.1, ← c.before.before.before.before.part.ensures) c.before.before.list-xids.ensures)
-    (λ c. rw (← c.before.before.before.part-of-image.ensures, c.before.e.given.1) refl))
+    (λ c. rw (← c.part_of_image.ensures, c.in-Got.is, ← c.part.ensures) c.list_xids.ensures)
+    (λ c. rw (← c.part_of_image.ensures, c.in-No.is) refl))

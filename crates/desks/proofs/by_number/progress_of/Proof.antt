@@ -10,7 +10,7 @@ progress_of_spec =
     (λ c κs. search rules)
     (λ c κs. search rules)
     (λ c. search rules)
-    (λ c. on_part_lem _ c.before.before.before.before.before.before.before.before.before.args.image.now c.before.before.before.before.before.before.before.before.before.args.numbered c.before.before.before.before.before.before.before.before.before.args.xid c.before.before.before.before.before.before.before.before.before.args.volume c.before.before.before.before.before.before.before.before.before.args.a c.before.before.before.before.before.before.before.before.before.args.b c.before.before.before.before.before.before.before.before.before.args.c c.before.before.before.before.before.before.before.before.before.args.path.now c.before.before.before.before.before.before.before.before.before.args.out.now _ _ c.before.before.before.before.which-of.ensures c.before.before.before.before.before.if1.true c.before.before.call-on-part.ensures)
+    (λ c. on_part_lem _ c.args.image.now c.args.numbered c.args.xid c.args.volume c.args.a c.args.b c.args.c c.args.path.now c.args.out.now _ _ c.which_of-which.ensures c.if-what-lt14.true c.call_on_part.ensures)
     (λ c κs. search rules)
     (λ c. search rules)
     (λ c. search rows))
