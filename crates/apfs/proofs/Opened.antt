@@ -1,6 +1,6 @@
 -- What `apfs_open` and `apfs_open_at` give: proof of what specs/Opened.antt says.
 use Prim.Native.Nat.{ℕ, ◌^◌, ◌≤◌, ◌<◌}
-use mathlib.Core.Path.{◌≡◌, refl}
+use mathlib.Core.Path.{◌≡◌, refl, sym, subst}
 use mathlib.Core.Logic.{◌⊎◌, inl, inr, ⊎_elim}
 use mathlib.Core.List.{List, [], ◌++◌}
 use lib.IntN.{pos}
@@ -69,12 +69,12 @@ module _ (image out : List ℕ) (t : Taking) where
 module _ (image out : List ℕ) where
   opened : Opens image (block_zero image) → GivenBy image out (at_latest image) (open_text choice.Latest image)
   unfolding open_counted
-  opened (at_latest_lem i l e) = rw (e, open_text) (given image out (at_latest image) i l)
+  opened (at_latest_lem i l e) = subst (λ (x : Counted Container). GivenBy image out (at_latest image) (text_of image out (at_latest image) x)) (sym e) (given image out (at_latest image) i l)
   opened (no_candidate n e) = rw (e, open_text) (said.no_candidate n (refl, refl))
 
   opened_by : (x : ℕ) → OpensBy image (block_zero image) x → GivenBy image out (at_number image x) (open_text (choice.Number x) image)
   unfolding open_counted
-  opened_by x (at_number_lem i n l e) = rw (e, open_text) (given image out (at_number image x) i (n, l))
+  opened_by x (at_number_lem i n l e) = subst (λ (y : Counted Container). GivenBy image out (at_number image x) (text_of image out (at_number image x) y)) (sym e) (given image out (at_number image x) i (n, l))
   opened_by x (no_number n e) = rw (e, open_text) (said.no_candidate n (refl, refl))
 
   module _ (h : length image ≤ 2 ^ 34) (r : BlockZeroRead image) where
