@@ -3,11 +3,11 @@ use Rattle.std.proofs.Common.{◌-◌, ◌≤◌, rules}
 use Rattle.cases.proofs.agreement.print_kinds.Statement.{statement}
 use Rattle.cases.proofs.agreement.print_kinds.Tie as tie
 
-abbrev invariant-loop : tie.invariant-loop
-invariant-loop kinds k₀ t3 k = k ≤ 418
+abbrev invariant-loop : tie.invariant-loop-k
+invariant-loop kinds k₀ k = k ≤ 418
 
-abbrev decreases-loop : tie.decreases-loop
-decreases-loop kinds k₀ t3 k = 418 - k
+abbrev decreases-loop : tie.decreases-loop-k
+decreases-loop kinds k₀ k = 418 - k
 
 pub print_kinds_spec : {M : Type 1} → statement M
 print_kinds_spec =
@@ -19,7 +19,6 @@ print_kinds_spec =
     (λ c. search rules)
     (λ c. search rules)
     (λ c κs. search rules)
-    (λ c. search rules)
     (λ c. search rules)
     (λ c κs. search rules)
     (λ c. search rules)

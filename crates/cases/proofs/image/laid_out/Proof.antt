@@ -3,10 +3,10 @@ use Rattle.std.proofs.Common.{◌≡◌, ◌-◌, length, rules}
 use Rattle.cases.proofs.image.laid_out.Statement.{statement}
 use Rattle.cases.proofs.image.laid_out.Tie as tie
 
-abbrev invariant-loop : tie.invariant-loop
+abbrev invariant-loop : tie.invariant-loop-from
 invariant-loop parts image₀ from₀ to₀ image from to = length image ≡ length image₀
 
-abbrev decreases-loop : tie.decreases-loop
+abbrev decreases-loop : tie.decreases-loop-from
 decreases-loop parts image₀ from₀ to₀ image from to = length parts - from
 
 pub laid_out_spec : {M : Type 1} → statement M

@@ -3,10 +3,10 @@ use Rattle.std.proofs.Common.{◌≡◌, ◌-◌, ◌≤◌, length, rules}
 use Rattle.cases.proofs.made.written_on.Statement.{statement}
 use Rattle.cases.proofs.made.written_on.Tie as tie
 
-abbrev invariant-loop : tie.invariant-loop
+abbrev invariant-loop : tie.invariant-loop-i
 invariant-loop out₀ x₀ i₀ out x i = (i ≤ length out₀) × (length out ≡ length out₀)
 
-abbrev decreases-loop : tie.decreases-loop
+abbrev decreases-loop : tie.decreases-loop-i
 decreases-loop out₀ x₀ i₀ out x i = length out₀ - i
 
 pub written_on_spec : {M : Type 1} → statement M
