@@ -1,5 +1,5 @@
 //! The program `lister` prints the listing of an image on its standard input as the oracle's own calls give
-//! it, or the refusal's number. `rt check lister` makes the program.
+//! it, or the refusal's number. `tools/archives.sh lister` makes the program.
 
 #![cfg(all(oracle, feature = "calls"))]
 
@@ -23,7 +23,7 @@ const TABLES: u64 = 60;
 
 fn printed(image: &[u8]) -> Vec<u8> {
     let command = Command::new(LISTER).stdin(Stdio::piped()).stdout(Stdio::piped()).spawn();
-    let mut lister = command.unwrap_or_else(|e| panic!("{LISTER}: {e}; `rt check lister` makes it"));
+    let mut lister = command.unwrap_or_else(|e| panic!("{LISTER}: {e}; `tools/archives.sh lister` makes it"));
     let mut input = lister.stdin.take().expect("a pipe");
     let image = image.to_vec();
     // Of an image that is too long the lister reads no more than it needs.
