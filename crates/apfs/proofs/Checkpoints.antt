@@ -3,7 +3,7 @@ use Prim.Native.Nat.{ℕ, ◌^◌, ◌≤◌}
 use mathlib.Core.Path.{refl}
 use mathlib.Core.List.{List}
 use lib.ListN.{length}
-use Rattle.error.specs.Answer.{Answer, got}
+use Rattle.error.specs.Answer.{Answer, Ok}
 use Rattle.error.proofs.Laws.{le_cases}
 use Rattle.byte_fields.specs.Part.{part_of}
 use Rattle.gpt.proofs.Part.{whole, inside_small, part_self}
@@ -21,7 +21,7 @@ module _ (image out : List ℕ) where
   abbrev GivenBy : Answer (List ℕ) → Type 0
   GivenBy a = GivesList image out (number (xids_by a out).answer) (xids_by a out).buffer
 
-  given : (l : List ℕ) → Whole image l → GivenBy (got l)
+  given : (l : List ℕ) → Whole image l → GivenBy (Ok l)
   unfolding xids_in
   given l w =
       le_cases (λ (f : Filled). GivesList image out (number f.answer) f.buffer)

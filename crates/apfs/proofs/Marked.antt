@@ -4,7 +4,7 @@ use mathlib.Core.Path.{◌≡◌, refl, sym, ap, ◌∙◌}
 use mathlib.Core.List.{List, [], ◌++◌}
 use native.Mathlib.Omega.{arith}
 use lib.ListN.{length, drop}
-use Rattle.error.specs.Answer.{Answer, got, no, ◌>>=◌}
+use Rattle.error.specs.Answer.{Answer, Ok, Err, ◌>>=◌}
 use Rattle.error.specs.declared.Refusal.TheVariants.{Io}
 use Rattle.error.proofs.Laws.{at_most_lem}
 use Rattle.byte_fields.specs.Part.{part_of}
@@ -21,19 +21,19 @@ use Rattle.apfs.specs.Opened.{Refused}
 use Rattle.apfs.specs.Marked.{Wrote, Gives, ApfsBookmarks}
 
 -- a call whose part is known
-module _ (image : List ℕ) (x : Span) (f : List ℕ → Answer (List ℕ)) (b : List ℕ) (h : part_of_image image ≡ got x) where
+module _ (image : List ℕ) (x : Span) (f : List ℕ → Answer (List ℕ)) (b : List ℕ) (h : part_of_image image ≡ Ok x) where
   on : (a : Answer (List ℕ)) → f (part_of image x) ≡ a → on_part f image ≡ a
   on a e = ap (λ (y : Answer Span). y >>= λ s. f (part_of image s)) h ∙ e
 
-  wrote : (t : List ℕ) → f (part_of image x) ≡ got t → length t ≤ length b → Wrote (result_of (on_part f image) b) (buffer_of (on_part f image) b) t b
+  wrote : (t : List ℕ) → f (part_of image x) ≡ Ok t → length t ≤ length b → Wrote (result_of (on_part f image) b) (buffer_of (on_part f image) b) t b
   unfolding filled
   wrote t e l =
-      let q : filled_by (on_part f image) b ≡ record { answer = got (length t); buffer = t ++ drop (length t) b } = ap (λ (a : Answer (List ℕ)). filled_by a b) (on (got t) e) ∙ sym (at_most_lem _ _ _ _ _ l refl) in
+      let q : filled_by (on_part f image) b ≡ record { answer = Ok (length t); buffer = t ++ drop (length t) b } = ap (λ (a : Answer (List ℕ)). filled_by a b) (on (Ok t) e) ∙ sym (at_most_lem _ _ _ _ _ l refl) in
       (ap (λ (y : Filled). number y.answer) q, ap (λ (y : Filled). y.buffer) q)
 
-  refused : f (part_of image x) ≡ no Io → Refused b (result_of (on_part f image) b) (buffer_of (on_part f image) b) 1
+  refused : f (part_of image x) ≡ Err Io → Refused b (result_of (on_part f image) b) (buffer_of (on_part f image) b) 1
   refused e =
-      let q : filled_by (on_part f image) b ≡ record { answer = no Io; buffer = b } = ap (λ (a : Answer (List ℕ)). filled_by a b) (on (no Io) e) in
+      let q : filled_by (on_part f image) b ≡ record { answer = Err Io; buffer = b } = ap (λ (a : Answer (List ℕ)). filled_by a b) (on (Err Io) e) in
       (ap (λ (y : Filled). number y.answer) q, ap (λ (y : Filled). y.buffer) q)
 
 pub apfs_bookmarks : ApfsBookmarks

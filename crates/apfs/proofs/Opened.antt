@@ -5,12 +5,13 @@ use mathlib.Core.Logic.{◌⊎◌, inl, inr, ⊎_elim}
 use mathlib.Core.List.{List, [], ◌++◌}
 use lib.IntN.{pos}
 use lib.ListN.{length, drop}
-use Rattle.error.specs.Answer.{Answer, got, no}
+use Rattle.error.specs.Answer.{Answer, Ok, Err}
 use Rattle.error.specs.declared.Refusal.TheVariants.{Unsupported}
 use Rattle.error.proofs.Laws.{le_cases, eq_cases}
 use Rattle.byte_fields.specs.Part.{part_of}
 use Rattle.gpt.proofs.Part.{whole, inside_small, part_self}
-use Rattle.lookup.specs.Counted.{Counted, after, from, onto}
+use Rattle.lookup.specs.declared.counted.Counted.{Counted}
+use Rattle.lookup.specs.Counted.{after, from, onto}
 use Rattle.lookup.specs.declared.map.Map.{Map}
 use Rattle.omap.specs.Load.{map_at}
 use Rattle.checkpoints.specs.declared.by_number.Choice.TheVariants as choice
@@ -40,7 +41,7 @@ module _ (image out : List ℕ) (t : Taking) where
 
   -- the text of an opening
   abbrev text_of : Counted Container → Answer (List ℕ)
-  text_of x = (onto x λ c s. after s (got (container_text image c []))).answer
+  text_of x = (onto x λ c s. after s (Ok (container_text image c []))).answer
 
   module _ (i : ℕ) (l : t.Taken i) where
     abbrev container : Map → Container
@@ -50,13 +51,13 @@ module _ (image out : List ℕ) (t : Taking) where
     unfolding container_text container_head
     the_line m = refl
 
-    shown : (said.Unsupported image i → ⊥) → (m : Map) → object_map image i ≡ got m → GivenBy (got (line image i))
+    shown : (said.Unsupported image i → ⊥) → (m : Map) → object_map image i ≡ Ok m → GivenBy (Ok (line image i))
     shown u m e =
         ⊎_elim (λ w. said.written i l u m e w.0 w.1 w.2) (λ s. said.too_short i l u m e s.0 s.1) (text_given (line image i) out)
 
-    loaded : (said.Unsupported image i → ⊥) → (n : ℕ) (a : Answer Map) → object_map image i ≡ a → GivenBy (text_of (from n a λ m. after n (got (container m))))
-    loaded u n (got m) e = rw (the_line m) (shown u m e)
-    loaded u n (no w) e = said.no_map i l u w e (refl, refl)
+    loaded : (said.Unsupported image i → ⊥) → (n : ℕ) (a : Answer Map) → object_map image i ≡ a → GivenBy (text_of (from n a λ m. after n (Ok (container m))))
+    loaded u n (Ok m) e = rw (the_line m) (shown u m e)
+    loaded u n (Err w) e = said.no_map i l u w e (refl, refl)
 
     given : GivenBy (text_of (opened_as image (block_zero image) (superblock image i)))
     unfolding opened_as

@@ -3,13 +3,14 @@ use Prim.Native.Nat.{ℕ, zero, suc}
 use mathlib.Core.Path.{◌≡◌, refl, ap, ◌∙◌}
 use mathlib.Core.Bool.{Bool, true, false}
 use mathlib.Core.List.{List, [], ◌∷◌, map}
-use mathlib.Core.Option.{Option, none, some}
+use Rattle.std.specs.Prelude.{Option, None, Some}
 use lib.ListN.{drop}
-use Rattle.error.specs.Answer.{Answer, got, no, ◌>>=◌, pick}
+use Rattle.error.specs.Answer.{Answer, Ok, Err, ◌>>=◌, pick}
 use Rattle.error.specs.declared.Refusal.TheVariants.{Corrupt}
 use Rattle.byte_fields.specs.Part.{up_to_zero}
 use Rattle.utf8.specs.Text.{lossy, Reading, reading, same_bytes}
-use Rattle.lookup.specs.Counted.{Counted, after, from, onto}
+use Rattle.lookup.specs.declared.counted.Counted.{Counted}
+use Rattle.lookup.specs.Counted.{after, from, onto}
 use Rattle.volume.specs.Open.{volume_of_image}
 use Rattle.volume.specs.declared.Volume.{Volume}
 use Rattle.volume.specs.declared.Which.{Which}
@@ -38,27 +39,27 @@ use Rattle.reads.specs.Reads.{read_on, read_counted, read_text, link_on, link_co
 
 -- the line of an entry at a place, nothing past the end
 abbrev pub entry_line_at : Option EntryShown → List ℕ
-entry_line_at none = []
-entry_line_at (some e) = entry_line e []
+entry_line_at None = []
+entry_line_at (Some e) = entry_line e []
 
 -- the line of an attribute, with its contents
 abbrev pub attribute_line_at : Option (AttributeShown (Answer (List ℕ))) → Answer (List ℕ)
-attribute_line_at none = got []
-attribute_line_at (some a) = a.contents >>= λ d. got (attribute_line (holding a d) [])
+attribute_line_at None = Ok []
+attribute_line_at (Some a) = a.contents >>= λ d. Ok (attribute_line (holding a d) [])
 
 -- the bytes of an attribute
 abbrev pub attribute_bytes_at : Option (AttributeShown (Answer (List ℕ))) → Answer (List ℕ)
-attribute_bytes_at none = got []
-attribute_bytes_at (some a) = a.contents
+attribute_bytes_at None = Ok []
+attribute_bytes_at (Some a) = a.contents
 
 -- the first attribute of a name
 unfoldable pub labelled : List ℕ → List (AttributeShown (Answer (List ℕ))) → Option (AttributeShown (Answer (List ℕ)))
-labelled name [] = none
-labelled name (a ∷ l) = pick (same_bytes a.label name) (some a) (labelled name l)
+labelled name [] = None
+labelled name (a ∷ l) = pick (same_bytes a.label name) (Some a) (labelled name l)
 
 abbrev pub link_in : Option (AttributeShown (Answer (List ℕ))) → Answer (List ℕ)
-link_in none = no Corrupt
-link_in (some a) = a.contents >>= λ x. got (lossy (up_to_zero x))
+link_in None = Err Corrupt
+link_in (Some a) = a.contents >>= λ x. Ok (lossy (up_to_zero x))
 
 -- the text of a link
 abbrev pub link_shown : View → ℕ → Answer (List ℕ)
@@ -72,14 +73,14 @@ module _ (image : List ℕ) (v : Volume) where
   entry_at zero (e ∷ es) = refl
   entry_at (suc k) (e ∷ es) = entry_at k es
 
-  entry_on_lem : (id k s : ℕ) → (entry_on image v id k s).answer ≡ (entries_answer image v id >>= λ es. got (entry_line_at (element_at k es)))
+  entry_on_lem : (id k s : ℕ) → (entry_on image v id k s).answer ≡ (entries_answer image v id >>= λ es. Ok (entry_line_at (element_at k es)))
   unfolding entry_on entries_answer
   entry_on_lem id k s = rw (← entries_even image v id s 0) (of (entries_of image v id s).nodes (entries_of image v id s).answer)
     where
-      of : (n : ℕ) (a : Answer (List Entry)) → (onto (placed k (after n a)) λ o t. after t (got (entry_show image v o))).answer
-          ≡ ((a >>= λ es. got (map (entry_shown v.reader image) es)) >>= λ es. got (entry_line_at (element_at k es)))
-      of n (got es) = ap got (entry_at k es)
-      of n (no e) = refl
+      of : (n : ℕ) (a : Answer (List Entry)) → (onto (placed k (after n a)) λ o t. after t (Ok (entry_show image v o))).answer
+          ≡ ((a >>= λ es. Ok (map (entry_shown v.reader image) es)) >>= λ es. Ok (entry_line_at (element_at k es)))
+      of n (Ok es) = ap Ok (entry_at k es)
+      of n (Err e) = refl
 
   lines_at : (k : ℕ) (es : List Entry) → lines_of v.reader image (drop k es) ≡ map (λ e. entry_line e []) (drop k (map (entry_shown v.reader image) es))
   lines_at zero [] = refl
@@ -92,14 +93,14 @@ module _ (image : List ℕ) (v : Volume) where
   entries_on_lem id k room s = rw (← entries_even image v id s 0) (of (entries_of image v id s).nodes (entries_of image v id s).answer)
     where
       of : (n : ℕ) (a : Answer (List Entry)) → (onto (after n a) λ es t. after t (fitting_some room (lines_of v.reader image (drop k es)))).answer
-          ≡ ((a >>= λ es. got (map (entry_shown v.reader image) es)) >>= λ es. fitting_some room (map (λ e. entry_line e []) (drop k es)))
-      of n (got es) = ap (fitting_some room) (lines_at k es)
-      of n (no e) = refl
+          ≡ ((a >>= λ es. Ok (map (entry_shown v.reader image) es)) >>= λ es. fitting_some room (map (λ e. entry_line e []) (drop k es)))
+      of n (Ok es) = ap (fitting_some room) (lines_at k es)
+      of n (Err e) = refl
 
-  attribute_of_lem : (a : Attribute) (s : ℕ) → (attribute_of image v a s).answer ≡ attribute_line_at (some (with_contents image v a))
+  attribute_of_lem : (a : Attribute) (s : ℕ) → (attribute_of image v a s).answer ≡ attribute_line_at (Some (with_contents image v a))
   unfolding attribute_of attribute_shown
   attribute_of_lem a s =
-      onto_answer (λ c t. after t (got (attribute_line (attribute_shown v.reader image a c) []))) (λ c. got (attribute_line (attribute_shown v.reader image a c) []))
+      onto_answer (λ c t. after t (Ok (attribute_line (attribute_shown v.reader image a c) []))) (λ c. Ok (attribute_line (attribute_shown v.reader image a c) []))
       (contents_of image v a s) (contents_of image v a 0).answer (contents_even image v a s 0) (λ c t. refl)
 
   attribute_at_lem : (k : ℕ) (l : List Attribute) (s : ℕ) → (attribute_show image v (element_at k l) s).answer ≡ attribute_line_at (element_at k (map (with_contents image v) l))
@@ -114,9 +115,9 @@ module _ (image : List ℕ) (v : Volume) where
   attribute_on_lem id k s = rw (← attributes_even image v id s 0) (of (attributes_of image v id s).nodes (attributes_of image v id s).answer)
     where
       of : (n : ℕ) (a : Answer (List Attribute)) → (onto (placed k (after n a)) λ o t. attribute_show image v o t).answer
-          ≡ ((a >>= λ l. got (map (with_contents image v) l)) >>= λ l. attribute_line_at (element_at k l))
-      of n (got l) = attribute_at_lem k l n
-      of n (no e) = refl
+          ≡ ((a >>= λ l. Ok (map (with_contents image v) l)) >>= λ l. attribute_line_at (element_at k l))
+      of n (Ok l) = attribute_at_lem k l n
+      of n (Err e) = refl
 
   bytes_at : (k : ℕ) (l : List Attribute) (s : ℕ) → (xattr_show image v (element_at k l) s).answer ≡ attribute_bytes_at (element_at k (map (with_contents image v) l))
   unfolding element_at attribute_shown
@@ -130,23 +131,23 @@ module _ (image : List ℕ) (v : Volume) where
   bytes_on id k s = rw (← attributes_even image v id s 0) (of (attributes_of image v id s).nodes (attributes_of image v id s).answer)
     where
       of : (n : ℕ) (a : Answer (List Attribute)) → (onto (placed k (after n a)) λ o t. xattr_show image v o t).answer
-          ≡ ((a >>= λ l. got (map (with_contents image v) l)) >>= λ l. attribute_bytes_at (element_at k l))
-      of n (got l) = bytes_at k l n
-      of n (no e) = refl
+          ≡ ((a >>= λ l. Ok (map (with_contents image v) l)) >>= λ l. attribute_bytes_at (element_at k l))
+      of n (Ok l) = bytes_at k l n
+      of n (Err e) = refl
 
   -- the text of a reading
   texts : Answer Reading → Answer (List ℕ)
-  texts a = a >>= λ r. got r.text
+  texts a = a >>= λ r. Ok r.text
 
-  target_of_lem : (a : Attribute) (s : ℕ) → texts (target_of image v a s).answer ≡ link_in (some (with_contents image v a))
+  target_of_lem : (a : Attribute) (s : ℕ) → texts (target_of image v a s).answer ≡ link_in (Some (with_contents image v a))
   unfolding target_of attribute_shown texts
   target_of_lem a s =
-      ap texts (onto_answer (λ x t. after t (got (reading (up_to_zero x)))) (λ x. got (reading (up_to_zero x))) (contents_of image v a s) (contents_of image v a 0).answer (contents_even image v a s 0) (λ x t. refl))
+      ap texts (onto_answer (λ x t. after t (Ok (reading (up_to_zero x)))) (λ x. Ok (reading (up_to_zero x))) (contents_of image v a s) (contents_of image v a 0).answer (contents_even image v a s 0) (λ x t. refl))
       ∙ of (contents_of image v a 0).answer
     where
-      of : (c : Answer (List ℕ)) → texts (c >>= λ x. got (reading (up_to_zero x))) ≡ (c >>= λ x. got (lossy (up_to_zero x)))
-      of (got x) = refl
-      of (no e) = refl
+      of : (c : Answer (List ℕ)) → texts (c >>= λ x. Ok (reading (up_to_zero x))) ≡ (c >>= λ x. Ok (lossy (up_to_zero x)))
+      of (Ok x) = refl
+      of (Err e) = refl
 
   link_in_lem : (l : List Attribute) (s : ℕ) → texts (target_in image v (named v.reader image symlink_name l) s).answer ≡ link_in (labelled symlink_name (map (with_contents image v) l))
   unfolding named labelled has_name attribute_shown texts
@@ -154,8 +155,8 @@ module _ (image : List ℕ) (v : Volume) where
   link_in_lem (a ∷ l) s = of (same_bytes (lossy (attribute_name v.reader image a)) symlink_name) (link_in_lem l s)
     where
       of : (d : Bool) → texts (target_in image v (named v.reader image symlink_name l) s).answer ≡ link_in (labelled symlink_name (map (with_contents image v) l))
-          → texts (target_in image v (pick d (some a) (named v.reader image symlink_name l)) s).answer
-          ≡ link_in (pick d (some (with_contents image v a)) (labelled symlink_name (map (with_contents image v) l)))
+          → texts (target_in image v (pick d (Some a) (named v.reader image symlink_name l)) s).answer
+          ≡ link_in (pick d (Some (with_contents image v a)) (labelled symlink_name (map (with_contents image v) l)))
       of true h = target_of_lem a s
       of false h = h
 
@@ -163,17 +164,17 @@ module _ (image : List ℕ) (v : Volume) where
   unfolding link_of link_reading attribute_named attributes_answer texts
   link_of_lem i s = rw (← attributes_even image v i.id s 0) (of (attributes_of image v i.id s).nodes (attributes_of image v i.id s).answer)
     where
-      text : (c : Counted Reading) → (onto c λ r t. after t (got r.text)).answer ≡ texts c.answer
+      text : (c : Counted Reading) → (onto c λ r t. after t (Ok r.text)).answer ≡ texts c.answer
       text c = told c.nodes c.answer
         where
-          told : (n : ℕ) (a : Answer Reading) → (onto (after n a) λ r t. after t (got r.text)).answer ≡ texts a
-          told n (got r) = refl
-          told n (no e) = refl
+          told : (n : ℕ) (a : Answer Reading) → (onto (after n a) λ r t. after t (Ok r.text)).answer ≡ texts a
+          told n (Ok r) = refl
+          told n (Err e) = refl
 
-      of : (n : ℕ) (a : Answer (List Attribute)) → (onto (onto (onto (after n a) λ xs t. after t (got (named v.reader image symlink_name xs))) λ o t. target_in image v o t) λ r t. after t (got r.text)).answer
-          ≡ ((a >>= λ l. got (map (with_contents image v) l)) >>= λ l. link_in (labelled symlink_name l))
-      of n (got l) = text (target_in image v (named v.reader image symlink_name l) n) ∙ link_in_lem l n
-      of n (no e) = refl
+      of : (n : ℕ) (a : Answer (List Attribute)) → (onto (onto (onto (after n a) λ xs t. after t (Ok (named v.reader image symlink_name xs))) λ o t. target_in image v o t) λ r t. after t (Ok r.text)).answer
+          ≡ ((a >>= λ l. Ok (map (with_contents image v) l)) >>= λ l. link_in (labelled symlink_name l))
+      of n (Ok l) = text (target_in image v (named v.reader image symlink_name l) n) ∙ link_in_lem l n
+      of n (Err e) = refl
 
   link_on_lem : (id s : ℕ) → (link_on image v id s).answer ≡ link_shown (view_of image v) id
   unfolding link_on inode_answer inode_shown
@@ -183,9 +184,9 @@ module _ (image : List ℕ) (v : Volume) where
       ∙ of (inode_of image v id 0).answer
     where
       of : (a : Answer Inode) → (a >>= λ i. attributes_answer image v i.id >>= λ l. link_in (labelled symlink_name l))
-          ≡ ((a >>= λ i. got (inode_shown v.reader image i)) >>= λ f. attributes_answer image v f.id >>= λ l. link_in (labelled symlink_name l))
-      of (got i) = refl
-      of (no e) = refl
+          ≡ ((a >>= λ i. Ok (inode_shown v.reader image i)) >>= λ f. attributes_answer image v f.id >>= λ l. link_in (labelled symlink_name l))
+      of (Ok i) = refl
+      of (Err e) = refl
 
   read_on_lem : (id off len s : ℕ) → (read_on image v id off len s).answer ≡ read_answer image v id off len
   unfolding read_on read_answer
@@ -193,14 +194,14 @@ module _ (image : List ℕ) (v : Volume) where
       onto_answer (λ i t. read_file image v i off len t) (λ i. (read_file image v i off len 0).answer) (inode_of image v id s) (inode_of image v id 0).answer
       (inode_even image v id s 0) (λ i t. read_even image v i off len t 0)
 
-  lookup_on_lem : (path : List ℕ) (s : ℕ) → (lookup_on image v path s).answer ≡ (lookup (view_of image v) path >>= λ f. got (node_line f []))
+  lookup_on_lem : (path : List ℕ) (s : ℕ) → (lookup_on image v path s).answer ≡ (lookup (view_of image v) path >>= λ f. Ok (node_line f []))
   unfolding lookup_on
   lookup_on_lem path s = rw (← lookup_shown image v path s) (of (lookup_path image v path s).nodes (lookup_path image v path s).answer)
     where
-      of : (n : ℕ) (a : Answer Inode) → (onto (after n a) λ i t. after t (got (node_line (inode_shown v.reader image i) []))).answer
-          ≡ ((a >>= λ i. got (inode_shown v.reader image i)) >>= λ f. got (node_line f []))
-      of n (got i) = refl
-      of n (no e) = refl
+      of : (n : ℕ) (a : Answer Inode) → (onto (after n a) λ i t. after t (Ok (node_line (inode_shown v.reader image i) []))).answer
+          ≡ ((a >>= λ i. Ok (inode_shown v.reader image i)) >>= λ f. Ok (node_line f []))
+      of n (Ok i) = refl
+      of n (Err e) = refl
 
 -- each call, by the view
 module _ (image : List ℕ) (index : Which) where
@@ -209,31 +210,31 @@ module _ (image : List ℕ) (index : Which) where
   unfolding view_of_part
   on_view f g h = of (volume_of_image image index).nodes (volume_of_image image index).answer
     where
-      of : (n : ℕ) (a : Answer Volume) → (from n a λ v. f v n).answer ≡ ((a >>= λ v. got (view_of image v)) >>= g)
-      of n (got v) = h v n
-      of n (no e) = refl
+      of : (n : ℕ) (a : Answer Volume) → (from n a λ v. f v n).answer ≡ ((a >>= λ v. Ok (view_of image v)) >>= g)
+      of n (Ok v) = h v n
+      of n (Err e) = refl
 
   pub read_view : (id off len : ℕ) → read_text image index id off len ≡ (view_of_part image index >>= λ v. v.read id off len)
   unfolding read_counted
   read_view id off len = on_view (λ v s. read_on image v id off len s) (λ v. v.read id off len) (λ v s. read_on_lem image v id off len s)
 
-  pub entry_view : (id k : ℕ) → entry_text image index id k ≡ (view_of_part image index >>= λ v. v.entries id >>= λ es. got (entry_line_at (element_at k es)))
+  pub entry_view : (id k : ℕ) → entry_text image index id k ≡ (view_of_part image index >>= λ v. v.entries id >>= λ es. Ok (entry_line_at (element_at k es)))
   unfolding entry_counted
-  entry_view id k = on_view (λ v s. entry_on image v id k s) (λ v. v.entries id >>= λ es. got (entry_line_at (element_at k es))) (λ v s. entry_on_lem image v id k s)
+  entry_view id k = on_view (λ v s. entry_on image v id k s) (λ v. v.entries id >>= λ es. Ok (entry_line_at (element_at k es))) (λ v s. entry_on_lem image v id k s)
 
   pub attribute_view : (id k : ℕ) → attribute_text image index id k ≡ (view_of_part image index >>= λ v. v.attributes id >>= λ l. attribute_line_at (element_at k l))
   unfolding attribute_counted
   attribute_view id k = on_view (λ v s. attribute_on image v id k s) (λ v. v.attributes id >>= λ l. attribute_line_at (element_at k l)) (λ v s. attribute_on_lem image v id k s)
 
-  pub lookup_view : (path : List ℕ) → lookup_text image index path ≡ (lookup_of_part image index path >>= λ f. got (node_line f []))
+  pub lookup_view : (path : List ℕ) → lookup_text image index path ≡ (lookup_of_part image index path >>= λ f. Ok (node_line f []))
   unfolding lookup_counted
   lookup_view path =
-      on_view (λ v s. lookup_on image v path s) (λ v. lookup v path >>= λ f. got (node_line f [])) (λ v s. lookup_on_lem image v path s)
+      on_view (λ v s. lookup_on image v path s) (λ v. lookup v path >>= λ f. Ok (node_line f [])) (λ v s. lookup_on_lem image v path s)
       ∙ rw (lookup_of_part_lem image index path) (of (view_of_part image index))
     where
-      of : (a : Answer View) → (a >>= λ v. lookup v path >>= λ f. got (node_line f [])) ≡ ((a >>= λ v. lookup v path) >>= λ f. got (node_line f []))
-      of (got v) = refl
-      of (no e) = refl
+      of : (a : Answer View) → (a >>= λ v. lookup v path >>= λ f. Ok (node_line f [])) ≡ ((a >>= λ v. lookup v path) >>= λ f. Ok (node_line f []))
+      of (Ok v) = refl
+      of (Err e) = refl
 
   pub entries_view : (id k room : ℕ) → entries_text image index id k room ≡ (view_of_part image index >>= λ v. v.entries id >>= λ es. fitting_some room (map (λ e. entry_line e []) (drop k es)))
   unfolding entries_counted

@@ -10,7 +10,7 @@
 -- `bytes_of` in xid_list, specs/Listed.antt. By its contract (src/earlier.rt) `apfs_checkpoints(image, out)` gives
 -- `number (xids_by (on_part numbers_at image) out).answer` and leaves `(xids_by (on_part numbers_at image) out).buffer`.
 use Rattle.std.specs.Prelude.{ℕ, ◌*◌, ◌^◌, ◌≤◌, ◌<◌, ◌≡◌, List, ◌++◌, ℤ, pos, length, drop}
-use Rattle.error.specs.Answer.{got, no, number_of}
+use Rattle.error.specs.Answer.{Ok, Err, number_of}
 use Rattle.error.specs.declared.Refusal.{Refusal}
 use Rattle.byte_fields.specs.Part.{part_of}
 use Rattle.byte_fields.specs.declared.Span.{Span}
@@ -37,8 +37,8 @@ pub data GivesList (image out : List ℕ) (result : ℤ) (buffer : List ℕ) : T
   empty : ((i : ℕ) → Candidate image (block_zero image) i → ⊥) → Refused out result buffer 2 → GivesList image out result buffer
 
 pub record ApfsCheckpoints : Type 0 where
-  pub call : (image out : List ℕ) (s : Span) → part_of_image image ≡ got s → BlockZeroRead (part_of image s)
+  pub call : (image out : List ℕ) (s : Span) → part_of_image image ≡ Ok s → BlockZeroRead (part_of image s)
       → GivesList (part_of image s) out (number (xids_by (on_part numbers_at image) out).answer) (xids_by (on_part numbers_at image) out).buffer
   -- an image with NXSB at byte 32
   pub call_whole : (image out : List ℕ) → length image ≤ 2 ^ 34 → BlockZeroRead image → GivesList image out (number (xids_by (on_part numbers_at image) out).answer) (xids_by (on_part numbers_at image) out).buffer
-  pub no_part : (image out : List ℕ) (e : Refusal) → part_of_image image ≡ no e → Refused out (number (xids_by (on_part numbers_at image) out).answer) (xids_by (on_part numbers_at image) out).buffer (number_of e)
+  pub no_part : (image out : List ℕ) (e : Refusal) → part_of_image image ≡ Err e → Refused out (number (xids_by (on_part numbers_at image) out).answer) (xids_by (on_part numbers_at image) out).buffer (number_of e)

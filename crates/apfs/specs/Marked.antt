@@ -9,8 +9,8 @@
 -- `mark_buffer` of the same, w being `latest volume`, and `apfs_marked(image, mark, out)` gives `marked_result image Latest mark out` and leaves
 -- `marked_buffer` of the same; at a checkpoint by its number w is `numbered xid volume`, and `Latest` is `Number xid`.
 use Rattle.std.specs.Prelude.{ℕ, ◌≤◌, ◌≡◌, List, [], ◌∷◌, ◌++◌, ℤ, pos, length, drop}
-use Rattle.std.proofs.Math.Option.{some}
-use Rattle.error.specs.Answer.{got}
+use Rattle.std.specs.Prelude.{Some}
+use Rattle.error.specs.Answer.{Ok}
 use Rattle.byte_fields.specs.Number.{little}
 use Rattle.byte_fields.specs.Part.{part_of}
 use Rattle.byte_fields.specs.declared.Span.{Span}
@@ -53,10 +53,10 @@ Wrote result buffer t b = (result ≡ pos (length t)) × (buffer ≡ t ++ drop (
 
 -- the record that a scan of the volume gives after `place` others
 pub record Gives (image : List ℕ) (x : Span) (w : Which) (id kind place : ℕ) (v : Volume) (p : Place) : Type 0 where
-  pub part : part_of_image image ≡ got x
+  pub part : part_of_image image ≡ Ok x
   pub nodes : ℕ
-  pub opened : volume_of_image (part_of image x) w ≡ after nodes (got v)
-  pub scanned : (nth place (scan_of (part_of image x) (search_of v id kind) nodes)).answer ≡ got (some p)
+  pub opened : volume_of_image (part_of image x) w ≡ after nodes (Ok v)
+  pub scanned : (nth place (scan_of (part_of image x) (search_of v id kind) nodes)).answer ≡ Ok (Some p)
 
 -- "leads to the same bytes"
 abbrev pub own_line : List ℕ → Volume → Place → List ℕ
@@ -70,10 +70,10 @@ pub record ApfsBookmarks : Type 0 where
       length (own_line (part_of image x) v p) ≤ length b →
       Wrote (marked_result image w.checkpoint (mark_bytes p) b) (marked_buffer image w.checkpoint (mark_bytes p) b) (own_line (part_of image x) v p) b
   -- "is 1"
-  pub one : (image : List ℕ) (x : Span) (choice : Choice) (c : Container) (m b : List ℕ) → part_of_image image ≡ got x → (open_at choice (part_of image x)).answer ≡ got c →
+  pub one : (image : List ℕ) (x : Span) (choice : Choice) (c : Container) (m b : List ℕ) → part_of_image image ≡ Ok x → (open_at choice (part_of image x)).answer ≡ Ok c →
       Passes c.reader.block_size (length (part_of image x)) m → Refused b (marked_result image choice m b) (marked_buffer image choice m b) 1
   -- "nothing else is tested"
-  pub nothing_else : (image : List ℕ) (x : Span) (choice : Choice) (c : Container) (m b : List ℕ) → part_of_image image ≡ got x →
-      (open_at choice (part_of image x)).answer ≡ got c → (Passes c.reader.block_size (length (part_of image x)) m → ⊥) →
+  pub nothing_else : (image : List ℕ) (x : Span) (choice : Choice) (c : Container) (m b : List ℕ) → part_of_image image ≡ Ok x →
+      (open_at choice (part_of image x)).answer ≡ Ok c → (Passes c.reader.block_size (length (part_of image x)) m → ⊥) →
       length (record_line (block_of c.reader (part_of image x) (little 8 m 0)) (place_in m) []) ≤ length b →
       Wrote (marked_result image choice m b) (marked_buffer image choice m b) (record_line (block_of c.reader (part_of image x) (little 8 m 0)) (place_in m) []) b

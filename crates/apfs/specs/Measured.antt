@@ -10,7 +10,7 @@
 -- it, and `apfs_list(image, volume, out)` gives `list_result image w out` and leaves `list_buffer image w out`, w being `latest volume`; at a checkpoint by
 -- its number w is `numbered xid volume`.
 use Rattle.std.specs.Prelude.{ℕ, ◌≤◌, ◌<◌, ◌≡◌, ◌⊎◌, List, [], ◌++◌, ℤ, pos, length, drop, replicate}
-use Rattle.error.specs.Answer.{Answer, got, number_of}
+use Rattle.error.specs.Answer.{Answer, Ok, number_of}
 use Rattle.error.specs.declared.Refusal.{Refusal}
 use Rattle.error.specs.declared.Refusal.TheVariants.{TooLong}
 use Rattle.gpt.specs.Part.{on_part}
@@ -43,7 +43,7 @@ pub record Lists (image : List ℕ) (w : Which) (n : ℕ) : Type 0 where
 -- "the greatest depth"
 pub record Goes (image : List ℕ) (w : Which) (depth : ℕ) : Type 0 where
   pub it : View
-  pub opened : view_at image w ≡ got it
+  pub opened : view_at image w ≡ Ok it
   pub deep : Deep it depth
 
 pub data GivesMeasure (image : List ℕ) (w : Which) (out : List ℕ) (result : ℤ) (buffer : List ℕ) : Type 0 where

@@ -11,7 +11,7 @@
 -- specs/Part.antt. By their contracts (src/lib.rt, src/earlier.rt) `apfs_open(image, out)` gives `result_of (on_part (open_text Latest) image) out` and
 -- leaves `buffer_of (on_part (open_text Latest) image) out`, and `apfs_open_at(image, x, out)` the same with `Number x`.
 use Rattle.std.specs.Prelude.{ℕ, ◌/◌, ◌%◌, ◌^◌, ◌≤◌, ◌<◌, ◌≡◌, ◌⊎◌, List, [], ◌∷◌, ◌++◌, ℤ, pos, length, drop}
-use Rattle.error.specs.Answer.{Answer, got, no, number_of}
+use Rattle.error.specs.Answer.{Answer, Ok, Err, number_of}
 use Rattle.error.specs.declared.Refusal.{Refusal}
 use Rattle.byte_fields.specs.Part.{part_of}
 use Rattle.byte_fields.specs.declared.Span.{Span}
@@ -73,13 +73,13 @@ pub data Gives (image out : List ℕ) (t : Taking) (result : ℤ) (buffer : List
   -- "Version 1, then Fusion: 3"
   unsupported : (i : ℕ) → t.Taken i → Unsupported image i → Refused out result buffer 3 → Gives image out t result buffer
   -- "Then the object map"
-  no_map : (i : ℕ) → t.Taken i → (Unsupported image i → ⊥) → (e : Refusal) → object_map image i ≡ no e
+  no_map : (i : ℕ) → t.Taken i → (Unsupported image i → ⊥) → (e : Refusal) → object_map image i ≡ Err e
       → Refused out result buffer (number_of e) → Gives image out t result buffer
   -- "6 (added) buffer shorter than the answer"
-  too_short : (i : ℕ) → t.Taken i → (Unsupported image i → ⊥) → (m : Map) → object_map image i ≡ got m
+  too_short : (i : ℕ) → t.Taken i → (Unsupported image i → ⊥) → (m : Map) → object_map image i ≡ Ok m
       → length out < length (line image i) → Refused out result buffer 6 → Gives image out t result buffer
   -- "Success writes nothing past its answer"
-  written : (i : ℕ) → t.Taken i → (Unsupported image i → ⊥) → (m : Map) → object_map image i ≡ got m
+  written : (i : ℕ) → t.Taken i → (Unsupported image i → ⊥) → (m : Map) → object_map image i ≡ Ok m
       → length (line image i) ≤ length out → result ≡ pos (length (line image i)) → buffer ≡ line image i ++ drop (length (line image i)) out
       → Gives image out t result buffer
   no_candidate : ((i : ℕ) → t.Asked i → ⊥) → Refused out result buffer t.none → Gives image out t result buffer
@@ -89,12 +89,12 @@ abbrev pub Given : List ℕ → List ℕ → Choice → Taking → List ℕ → 
 Given image out choice t part = Gives part out t (result_of (on_part (open_text choice) image) out) (buffer_of (on_part (open_text choice) image) out)
 
 pub record ApfsOpened : Type 0 where
-  pub call : (image out : List ℕ) (s : Span) → part_of_image image ≡ got s → BlockZeroRead (part_of image s)
+  pub call : (image out : List ℕ) (s : Span) → part_of_image image ≡ Ok s → BlockZeroRead (part_of image s)
       → Given image out choice.Latest (at_latest (part_of image s)) (part_of image s)
-  pub call_at : (image out : List ℕ) (x : ℕ) (s : Span) → part_of_image image ≡ got s → BlockZeroRead (part_of image s)
+  pub call_at : (image out : List ℕ) (x : ℕ) (s : Span) → part_of_image image ≡ Ok s → BlockZeroRead (part_of image s)
       → Given image out (choice.Number x) (at_number (part_of image s) x) (part_of image s)
   -- an image with NXSB at byte 32
   pub call_whole : (image out : List ℕ) → length image ≤ 2 ^ 34 → BlockZeroRead image → Given image out choice.Latest (at_latest image) image
   pub call_whole_at : (image out : List ℕ) (x : ℕ) → length image ≤ 2 ^ 34 → BlockZeroRead image → Given image out (choice.Number x) (at_number image x) image
-  pub no_part : (image out : List ℕ) (c : Choice) (e : Refusal) → part_of_image image ≡ no e
+  pub no_part : (image out : List ℕ) (c : Choice) (e : Refusal) → part_of_image image ≡ Err e
       → Refused out (result_of (on_part (open_text c) image) out) (buffer_of (on_part (open_text c) image) out) (number_of e)

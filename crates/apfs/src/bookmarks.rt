@@ -6,7 +6,7 @@ ghost use Rattle.volume.specs.Open.{latest, numbered};
 ghost use Rattle.marks.specs.Texts.{mark_text, marked_text};
 ghost use Rattle.results.specs.Call.{result_of, buffer_of};
 
-use byte_fields::{Sliced, part};
+use byte_fields::part;
 use checkpoints::Choice;
 use gpt::part_of_image;
 use marks::{mark_text, marked_text};
@@ -17,8 +17,8 @@ fn mark_part(image: &[u8], which: Which, id: u64, kind: u8, place: u64, out: &mu
     ensures { (result ≡ result_of (on_part (λ p. mark_text p which id kind place) image.now) out.old) × (out.new ≡ buffer_of (on_part (λ p. mark_text p which id kind place) image.now) out.old) }
 {
     match part_of_image(image) {
-        Sliced::Got(s) => result_of(mark_text(part(image, s), which, id, kind, place, out)),
-        Sliced::No(e) => refused(e),
+        Ok(s) => result_of(mark_text(part(image, s), which, id, kind, place, out)),
+        Err(e) => refused(e),
     }
 }
 
@@ -26,8 +26,8 @@ fn marked_part(image: &[u8], choice: Choice, mark: &[u8], out: &mut [u8]) -> i64
     ensures { (result ≡ result_of (on_part (λ p. marked_text choice p mark.now) image.now) out.old) × (out.new ≡ buffer_of (on_part (λ p. marked_text choice p mark.now) image.now) out.old) }
 {
     match part_of_image(image) {
-        Sliced::Got(s) => result_of(marked_text(part(image, s), choice, mark, out)),
-        Sliced::No(e) => refused(e),
+        Ok(s) => result_of(marked_text(part(image, s), choice, mark, out)),
+        Err(e) => refused(e),
     }
 }
 

@@ -20,7 +20,7 @@ use crate::on_part::{
     entries_part, entry_part, extent_part, link_part, list_part, lookup_part, measure_part,
     open_part, read_part, replaced_part, xattr_bytes_part, xattr_part,
 };
-use byte_fields::{Sliced, part};
+use byte_fields::part;
 use checkpoints::Choice;
 use gpt::part_of_image;
 use results::{refused, result};
@@ -33,8 +33,8 @@ pub extern "C" fn apfs_checkpoints(image: &[u8], out: &mut [u8]) -> i64
     ensures { (result ≡ number (xids_by (on_part numbers_at image.now) out.old).answer) × (out.new ≡ (xids_by (on_part numbers_at image.now) out.old).buffer) }
 {
     match part_of_image(image) {
-        Sliced::Got(s) => result(list_xids(part(image, s), out)),
-        Sliced::No(e) => refused(e),
+        Ok(s) => result(list_xids(part(image, s), out)),
+        Err(e) => refused(e),
     }
 }
 

@@ -13,7 +13,7 @@ ghost use Rattle.measure.specs.Line.{measure_text};
 ghost use Rattle.results.specs.Call.{number, result_of, buffer_of};
 
 use attribute_lines::attribute_text;
-use byte_fields::{Sliced, part};
+use byte_fields::part;
 use checkpoints::Choice;
 use container_line::open_line;
 use element_lines::{entry_text, extent_text, lookup_text};
@@ -31,8 +31,8 @@ pub fn open_part(image: &[u8], choice: Choice, out: &mut [u8]) -> i64
     ensures { (result ≡ result_of (on_part (open_text choice) image.now) out.old) × (out.new ≡ buffer_of (on_part (open_text choice) image.now) out.old) }
 {
     match part_of_image(image) {
-        Sliced::Got(s) => result_of(open_line(part(image, s), choice, out)),
-        Sliced::No(e) => refused(e),
+        Ok(s) => result_of(open_line(part(image, s), choice, out)),
+        Err(e) => refused(e),
     }
 }
 
@@ -41,8 +41,8 @@ pub fn lookup_part(image: &[u8], which: Which, path: &[u8], out: &mut [u8]) -> i
     ensures { (result ≡ result_of (on_part (λ p. lookup_text p which path.now) image.now) out.old) × (out.new ≡ buffer_of (on_part (λ p. lookup_text p which path.now) image.now) out.old) }
 {
     match part_of_image(image) {
-        Sliced::Got(s) => result_of(lookup_text(part(image, s), which, path, out)),
-        Sliced::No(e) => refused(e),
+        Ok(s) => result_of(lookup_text(part(image, s), which, path, out)),
+        Err(e) => refused(e),
     }
 }
 
@@ -51,8 +51,8 @@ pub fn read_part(image: &[u8], which: Which, id: u64, offset: u64, out: &mut [u8
     ensures { (result ≡ result_of (on_part (λ p. read_text p which id offset (length out.old)) image.now) out.old) × (out.new ≡ buffer_of (on_part (λ p. read_text p which id offset (length out.old)) image.now) out.old) }
 {
     match part_of_image(image) {
-        Sliced::Got(s) => result_of(read_text(part(image, s), which, id, offset, out)),
-        Sliced::No(e) => refused(e),
+        Ok(s) => result_of(read_text(part(image, s), which, id, offset, out)),
+        Err(e) => refused(e),
     }
 }
 
@@ -61,8 +61,8 @@ pub fn entry_part(image: &[u8], which: Which, id: u64, place: u64, out: &mut [u8
     ensures { (result ≡ result_of (on_part (λ p. entry_text p which id place) image.now) out.old) × (out.new ≡ buffer_of (on_part (λ p. entry_text p which id place) image.now) out.old) }
 {
     match part_of_image(image) {
-        Sliced::Got(s) => result_of(entry_text(part(image, s), which, id, place, out)),
-        Sliced::No(e) => refused(e),
+        Ok(s) => result_of(entry_text(part(image, s), which, id, place, out)),
+        Err(e) => refused(e),
     }
 }
 
@@ -71,8 +71,8 @@ pub fn entries_part(image: &[u8], which: Which, id: u64, place: u64, out: &mut [
     ensures { (result ≡ result_of (on_part (λ p. entries_text p which id place (length out.old)) image.now) out.old) × (out.new ≡ buffer_of (on_part (λ p. entries_text p which id place (length out.old)) image.now) out.old) }
 {
     match part_of_image(image) {
-        Sliced::Got(s) => result_of(entries_text(part(image, s), which, id, place, out)),
-        Sliced::No(e) => refused(e),
+        Ok(s) => result_of(entries_text(part(image, s), which, id, place, out)),
+        Err(e) => refused(e),
     }
 }
 
@@ -81,8 +81,8 @@ pub fn xattr_part(image: &[u8], which: Which, id: u64, place: u64, out: &mut [u8
     ensures { (result ≡ result_of (on_part (λ p. attribute_text p which id place) image.now) out.old) × (out.new ≡ buffer_of (on_part (λ p. attribute_text p which id place) image.now) out.old) }
 {
     match part_of_image(image) {
-        Sliced::Got(s) => result_of(attribute_text(part(image, s), which, id, place, out)),
-        Sliced::No(e) => refused(e),
+        Ok(s) => result_of(attribute_text(part(image, s), which, id, place, out)),
+        Err(e) => refused(e),
     }
 }
 
@@ -91,8 +91,8 @@ pub fn xattr_bytes_part(image: &[u8], which: Which, id: u64, place: u64, out: &m
     ensures { (result ≡ result_of (on_part (λ p. xattr_bytes p which id place) image.now) out.old) × (out.new ≡ buffer_of (on_part (λ p. xattr_bytes p which id place) image.now) out.old) }
 {
     match part_of_image(image) {
-        Sliced::Got(s) => result_of(xattr_bytes(part(image, s), which, id, place, out)),
-        Sliced::No(e) => refused(e),
+        Ok(s) => result_of(xattr_bytes(part(image, s), which, id, place, out)),
+        Err(e) => refused(e),
     }
 }
 
@@ -101,8 +101,8 @@ pub fn link_part(image: &[u8], which: Which, id: u64, out: &mut [u8]) -> i64
     ensures { (result ≡ result_of (on_part (λ p. link_text p which id) image.now) out.old) × (out.new ≡ buffer_of (on_part (λ p. link_text p which id) image.now) out.old) }
 {
     match part_of_image(image) {
-        Sliced::Got(s) => result_of(link_text(part(image, s), which, id, out)),
-        Sliced::No(e) => refused(e),
+        Ok(s) => result_of(link_text(part(image, s), which, id, out)),
+        Err(e) => refused(e),
     }
 }
 
@@ -111,8 +111,8 @@ pub fn measure_part(image: &[u8], which: Which, out: &mut [u8]) -> i64
     ensures { (result ≡ result_of (on_part (λ p. measure_text p which) image.now) out.old) × (out.new ≡ buffer_of (on_part (λ p. measure_text p which) image.now) out.old) }
 {
     match part_of_image(image) {
-        Sliced::Got(s) => result_of(measure_text(part(image, s), which, out)),
-        Sliced::No(e) => refused(e),
+        Ok(s) => result_of(measure_text(part(image, s), which, out)),
+        Err(e) => refused(e),
     }
 }
 
@@ -128,8 +128,8 @@ pub fn replaced_part(
     ensures { (result ≡ result_of (on_part (λ p. replaced_text p which kind id place) image.now) out.old) × (out.new ≡ buffer_of (on_part (λ p. replaced_text p which kind id place) image.now) out.old) }
 {
     match part_of_image(image) {
-        Sliced::Got(s) => result_of(replaced_text(part(image, s), which, kind, id, place, out)),
-        Sliced::No(e) => refused(e),
+        Ok(s) => result_of(replaced_text(part(image, s), which, kind, id, place, out)),
+        Err(e) => refused(e),
     }
 }
 
@@ -138,8 +138,8 @@ pub fn extent_part(image: &[u8], which: Which, id: u64, place: u64, out: &mut [u
     ensures { (result ≡ result_of (on_part (λ p. extent_text p which id place) image.now) out.old) × (out.new ≡ buffer_of (on_part (λ p. extent_text p which id place) image.now) out.old) }
 {
     match part_of_image(image) {
-        Sliced::Got(s) => result_of(extent_text(part(image, s), which, id, place, out)),
-        Sliced::No(e) => refused(e),
+        Ok(s) => result_of(extent_text(part(image, s), which, id, place, out)),
+        Err(e) => refused(e),
     }
 }
 
@@ -148,7 +148,7 @@ pub fn list_part(image: &[u8], which: Which, out: &mut [u8]) -> i64
     ensures { (result ≡ number (listed_of (listing_of image.now which (length out.old)) out.old).answer) × (out.new ≡ (listed_of (listing_of image.now which (length out.old)) out.old).buffer) }
 {
     match part_of_image(image) {
-        Sliced::Got(s) => result_of(list_text(part(image, s), which, out)),
-        Sliced::No(e) => result(refuse_zeroed(out, e)),
+        Ok(s) => result_of(list_text(part(image, s), which, out)),
+        Err(e) => result(refuse_zeroed(out, e)),
     }
 }

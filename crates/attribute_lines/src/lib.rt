@@ -10,27 +10,30 @@ ghost use Rattle.calls.specs.Filled.{filled_at, filled, called_by, answered};
 ghost use Rattle.attribute_lines.specs.Attributes.{streamed_of, attribute_of, attribute_on, attribute_counted};
 
 use byte_fields::Span;
-use calls::Progress;
-use extents::Ruling;
+use error::Refusal;
 use forms::put_streamed;
 use lines::put_attribute_embedded;
-use lists::{AttributeAt, attribute_at};
+use lists::attribute_at;
+use lookup::Counted;
 use obj::Reader;
 use records::{Attribute, AttributeData, StreamData};
 use streams::settle_stream;
-use text::Position;
-use volume::{Volume, VolumeOpening, Which, open_at};
+use volume::{Volume, Which, open_at};
 
 // Measured first: a buffer that is too short is left as it was.
-fn show_embedded(image: &[u8], reader: Reader, a: Attribute, span: Span, out: &mut [u8]) -> Position
+fn show_embedded(
+    image: &[u8],
+    reader: Reader,
+    a: Attribute,
+    span: Span,
+    out: &mut [u8],
+) -> Result<usize, Refusal>
     ensures { filled_at result out.new ≡ filled (attribute_line (attribute_shown reader image.now a (attribute_bytes reader image.now a.place span)) []) out.old }
 {
     let room = out.len();
-    match put_attribute_embedded(&mut out[..0], room, Position::At(0), image, reader, a, span) {
-        Position::No(w) => Position::No(w),
-        Position::At(_) => {
-            put_attribute_embedded(out, room, Position::At(0), image, reader, a, span)
-        }
+    match put_attribute_embedded(&mut out[..0], room, Ok(0), image, reader, a, span) {
+        Err(w) => Err(w),
+        Ok(_) => { put_attribute_embedded(out, room, Ok(0), image, reader, a, span) }
     }
 }
 
@@ -41,13 +44,13 @@ fn show_streamed(
     d: StreamData,
     nodes: u64,
     out: &mut [u8],
-) -> Position
+) -> Result<usize, Refusal>
     ensures { filled_at result out.new ≡ filled (attribute_line (attribute_shown v.reader image.now a (stream_bytes image.now v d.object d.size nodes)) []) out.old }
 {
     let room = out.len();
-    match put_streamed(&mut out[..0], room, Position::At(0), image, v, a, d, nodes) {
-        Position::No(w) => Position::No(w),
-        Position::At(_) => put_streamed(out, room, Position::At(0), image, v, a, d, nodes),
+    match put_streamed(&mut out[..0], room, Ok(0), image, v, a, d, nodes) {
+        Err(w) => Err(w),
+        Ok(_) => put_streamed(out, room, Ok(0), image, v, a, d, nodes),
     }
 }
 
@@ -59,31 +62,31 @@ fn streamed_of(
     d: StreamData,
     nodes: u64,
     out: &mut [u8],
-) -> Progress
+) -> Counted<usize>
     ensures { called_by result out.new ≡ answered (streamed_of image.now v a d nodes) out.old }
 {
     let settled = settle_stream(image, v, d.object, d.size, nodes);
-    let ruling = settled.ruling;
+    let ruling = settled.answer;
     match ruling {
-        Ruling::Fine => Progress {
-            at: show_streamed(image, v, a, d, nodes, out),
+        Ok(()) => Counted {
+            answer: show_streamed(image, v, a, d, nodes, out),
             nodes: settled.nodes,
         },
-        Ruling::No(w) => Progress {
-            at: Position::No(w),
+        Err(w) => Counted {
+            answer: Err(w),
             nodes: settled.nodes,
         },
     }
 }
 
-fn attribute_of(image: &[u8], v: Volume, a: Attribute, nodes: u64, out: &mut [u8]) -> Progress
+fn attribute_of(image: &[u8], v: Volume, a: Attribute, nodes: u64, out: &mut [u8]) -> Counted<usize>
     ensures { called_by result out.new ≡ answered (attribute_of image.now v a nodes) out.old }
 {
     let reader = v.reader;
     let contents = a.contents;
     match contents {
-        AttributeData::Embedded(span) => Progress {
-            at: show_embedded(image, reader, a, span, out),
+        AttributeData::Embedded(span) => Counted {
+            answer: show_embedded(image, reader, a, span, out),
             nodes: nodes,
         },
         AttributeData::Stream(d) => streamed_of(image, v, a, d, nodes, out),
@@ -97,33 +100,39 @@ fn attribute_on(
     place: u64,
     nodes: u64,
     out: &mut [u8],
-) -> Progress
+) -> Counted<usize>
     ensures { called_by result out.new ≡ answered (attribute_on image.now v id place nodes) out.old }
 {
     let found = attribute_at(image, v, id, place, nodes);
-    let attribute = found.attribute;
+    let attribute = found.answer;
     match attribute {
-        AttributeAt::Nothing => Progress {
-            at: Position::At(0),
+        Ok(None) => Counted {
+            answer: Ok(0),
             nodes: found.nodes,
         },
-        AttributeAt::At(a) => attribute_of(image, v, a, found.nodes, out),
-        AttributeAt::No(w) => Progress {
-            at: Position::No(w),
+        Ok(Some(a)) => attribute_of(image, v, a, found.nodes, out),
+        Err(w) => Counted {
+            answer: Err(w),
             nodes: found.nodes,
         },
     }
 }
 
-pub fn attribute_text(image: &[u8], which: Which, id: u64, place: u64, out: &mut [u8]) -> Progress
+pub fn attribute_text(
+    image: &[u8],
+    which: Which,
+    id: u64,
+    place: u64,
+    out: &mut [u8],
+) -> Counted<usize>
     ensures { called_by result out.new ≡ answered (attribute_counted image.now which id place) out.old }
 {
     let opened = open_at(image, which);
-    let volume = opened.volume;
+    let volume = opened.answer;
     match volume {
-        VolumeOpening::Got(v) => attribute_on(image, v, id, place, opened.nodes, out),
-        VolumeOpening::No(w) => Progress {
-            at: Position::No(w),
+        Ok(v) => attribute_on(image, v, id, place, opened.nodes, out),
+        Err(w) => Counted {
+            answer: Err(w),
             nodes: opened.nodes,
         },
     }

@@ -4,7 +4,7 @@ use mathlib.Core.Path.{◌≡◌, refl, sym, ap, ◌∙◌}
 use mathlib.Core.List.{List, [], ◌∷◌, ◌++◌}
 use lib.ListN.{length}
 use native.Mathlib.Omega.{arith}
-use Rattle.error.specs.Answer.{Answer, got, no}
+use Rattle.error.specs.Answer.{Answer, Ok, Err}
 use Rattle.error.specs.declared.Refusal.{Refusal}
 use Rattle.error.proofs.Laws.{le_cases}
 use Rattle.arith.specs.Checked.{ticked}
@@ -38,30 +38,30 @@ counted_path (suc k) ended s h = omega arith
 counted_path (suc k) (failed e) s h = omega arith
 
 module _ (b : List ℕ) (q : Search) (m : Node) (i : ℕ) where
-  no_path : (ps : List ℕ) (e : Refusal) → EntryPath b q m i (record { path = ps; answer = no e })
+  no_path : (ps : List ℕ) (e : Refusal) → EntryPath b q m i (record { path = ps; answer = Err e })
   no_path ps e = record {
     stopped = λ h. absurd (let z : ◌≡◌ {A = ℕ} 0 1 = cc in omega arith);
     skipped = λ h. absurd (let z : ◌≡◌ {A = ℕ} 0 1 = cc in omega arith);
     entered = λ c h. absurd (let z : ◌≡◌ {A = ℕ} 0 1 = cc in omega arith);
   }
 
-  stop_path : EntryPath b q m i (at_once (got stop))
+  stop_path : EntryPath b q m i (at_once (Ok stop))
   stop_path = record {
     stopped = λ h. refl;
     skipped = λ h. refl;
     entered = λ c h. absurd (let z : ◌≡◌ {A = ℕ} 0 1 = cc in omega arith);
   }
 
-  skip_path : EntryPath b q m i (at_once (got skip))
+  skip_path : EntryPath b q m i (at_once (Ok skip))
   skip_path = record {
     stopped = λ h. refl;
     skipped = λ h. refl;
     entered = λ c h. absurd (let z : ◌≡◌ {A = ℕ} 0 1 = cc in omega arith);
   }
 
-  on_path : {A : Type 0} (a : Answer A) (f : A → Through Act) → ((x : A) → a ≡ got x → EntryPath b q m i (f x)) → EntryPath b q m i (on a f)
-  on_path (got x) f h = h x refl
-  on_path (no e) f h = no_path [] e
+  on_path : {A : Type 0} (a : Answer A) (f : A → Through Act) → ((x : A) → a ≡ Ok x → EntryPath b q m i (f x)) → EntryPath b q m i (on a f)
+  on_path (Ok x) f h = h x refl
+  on_path (Err e) f h = no_path [] e
 
   order_path : (o : Order) (x y z : Through Act) → EntryPath b q m i x → EntryPath b q m i y → EntryPath b q m i z → EntryPath b q m i (by_order o x y z)
   unfolding by_order
@@ -70,7 +70,7 @@ module _ (b : List ℕ) (q : Search) (m : Node) (i : ℕ) where
   order_path Above x y z h j k = k
 
   -- a child that was looked up and read
-  child_path : (child : ℕ) → child_at (bytes_of b q m) m q.keys.info i ≡ got child → EntryPath b q m i (child_node b q child)
+  child_path : (child : ℕ) → child_at (bytes_of b q m) m q.keys.info i ≡ Ok child → EntryPath b q m i (child_node b q child)
   unfolding child_node and_then
   child_path child e = of (resolve q.keys.reader b q.resolve child).answer
     where
@@ -78,25 +78,25 @@ module _ (b : List ℕ) (q : Search) (m : Node) (i : ℕ) where
       named = (resolve q.keys.reader b q.resolve child).path
 
       read : ℕ → Answer Node → Through Act
-      read p x = on x λ c. by p (at_once (got (into c)))
+      read p x = on x λ c. by p (at_once (Ok (into c)))
 
       into_path : (p : ℕ) (x : Answer Node) → node_at q.keys.reader b p ≡ x → EntryPath b q m i (record { path = named ++ (read p x).path; answer = (read p x).answer })
-      into_path p (got d) g = record {
+      into_path p (Ok d) g = record {
         stopped = λ h. absurd (let z : ◌≡◌ {A = ℕ} 0 1 = cc in omega arith);
         skipped = λ h. absurd (let z : ◌≡◌ {A = ℕ} 0 1 = cc in omega arith);
         entered = λ c h. (child, e, entered c h);
       }
         where
-          entered : (c : Node) → got (into d) ≡ got (into c) → named ++ (p ∷ []) ≡ name_path q.keys.reader b q.resolve child ++ (c.block ∷ [])
+          entered : (c : Node) → ◌≡◌ {A = Answer _} (Ok (into d)) (Ok (into c)) → named ++ (p ∷ []) ≡ name_path q.keys.reader b q.resolve child ++ (c.block ∷ [])
           entered c h =
               let k : d ≡ c = cc in
               let l : p ≡ c.block = sym (read_block q.keys.reader b p d g) ∙ ap (λ (n : Node). n.block) k in
               rw (resolves_by q.keys.reader b q.resolve child, l)
-      into_path p (no w) g = no_path _ w
+      into_path p (Err w) g = no_path _ w
 
       of : (a : Answer ℕ) → EntryPath b q m i (record { path = named ++ (on a (λ p. read p (node_at q.keys.reader b p))).path; answer = (on a (λ p. read p (node_at q.keys.reader b p))).answer })
-      of (got p) = into_path p (node_at q.keys.reader b p) refl
-      of (no w) = no_path _ w
+      of (Ok p) = into_path p (node_at q.keys.reader b p) refl
+      of (Err w) = no_path _ w
 
   enter_path : EntryPath b q m i (enter_at b q m i)
   unfolding enter_at

@@ -5,7 +5,7 @@ use mathlib.Core.Bool.{Bool, true, false}
 use mathlib.Core.List.{List}
 use native.Mathlib.Omega.{arith}
 use borrow.Author.Rules.{rules}
-use Rattle.error.specs.Answer.{Answer, got, no, ◌>>=◌, if_le, if_eq}
+use Rattle.error.specs.Answer.{Answer, Ok, Err, ◌>>=◌, if_le, if_eq}
 use Rattle.error.specs.declared.Refusal.{Refusal}
 use Rattle.error.proofs.Laws.{at_most_lem, above, same, other, le_cases, eq_cases, bound}
 use Rattle.byte_fields.specs.Number.{number_at}
@@ -14,15 +14,13 @@ use Rattle.node.specs.Entry.{key_value_at}
 use Rattle.node.specs.declared.layout.Node.{Node}
 use Rattle.node.specs.declared.layout.Info.{Info}
 use Rattle.node.specs.declared.table.KeyValue.{KeyValue}
-use Rattle.btree.specs.Entries.{bytes_of, order_told, order_of, key_order, order_in, order_at, by_order, Leaf, pass_over, end_scan, record_at, record_of, item_in, item_at}
+use Rattle.btree.specs.Entries.{bytes_of, order_of, key_order, order_in, order_at, by_order, Leaf, pass_over, end_scan, record_at, record_of, item_in, item_at}
 use Rattle.btree.specs.Scan.{Run}
 use Rattle.btree.specs.Inner.{leaf_then, leaf_from, item_then, in_leaf, in_node, next_then, follow_then, here_then, seek_in, seek_at, kinded, not_below, stays_at}
 use Rattle.btree.specs.declared.entries.Search.{Search}
 use Rattle.node.specs.declared.place.Place.{Place}
 use Rattle.btree.specs.declared.entries.Order.{Order}
 use Rattle.btree.specs.declared.entries.Order.TheVariants.{Below, Inside, Above}
-use Rattle.btree.specs.declared.entries.Ordered.{Ordered}
-use Rattle.btree.specs.declared.entries.Ordered.TheVariants as ordered
 use Rattle.btree.specs.declared.leaf.InLeaf.{InLeaf}
 use Rattle.btree.specs.declared.leaf.InLeaf.TheVariants as leaf
 use Rattle.btree.specs.declared.seek.Seek.{Seek}
@@ -46,40 +44,40 @@ module _ (id kind k : ℕ) (lt : kind < k) where
       P : Order → Type 0
       P x = (x ≡ Above → ⊥) → if_eq (h % 2 ^ 60) id (if_eq (h / 2 ^ 60) k Inside (if_le (h / 2 ^ 60) k Below Above)) (if_le (h % 2 ^ 60) id Below Above) ≡ Below
 
-  key_up : (key : List ℕ) (o : Order) → key_order id kind key ≡ got o → (o ≡ Above → ⊥) → key_order id k key ≡ got Below
+  key_up : (key : List ℕ) (o : Order) → key_order id kind key ≡ Ok o → (o ≡ Above → ⊥) → key_order id k key ≡ Ok Below
   unfolding key_order
   key_up key o e v =
-      let t = bound (number_at 8 key 0) (λ h. got (order_of id kind h)) o e in
+      let t = bound (number_at 8 key 0) (λ h. Ok (order_of id kind h)) o e in
       let z : order_of id kind t.0 ≡ o = cc t.1.1 in
-      rw t.1.0 (ap got (order_up t.0 (λ a. v (sym z ∙ a))))
+      rw t.1.0 (ap Ok (order_up t.0 (λ a. v (sym z ∙ a))))
 
   module _ (b : List ℕ) (m : Node) (info : Info) where
-    order_in_up : (i : ℕ) (o : Order) → order_in b m info id kind i ≡ got o → (o ≡ Above → ⊥) → order_in b m info id k i ≡ got Below
+    order_in_up : (i : ℕ) (o : Order) → order_in b m info id kind i ≡ Ok o → (o ≡ Above → ⊥) → order_in b m info id k i ≡ Ok Below
     unfolding order_in
     order_in_up i o e v =
         let t = bound (key_value_at b m info i) (λ (x : KeyValue). key_order id kind (part_of b x.key)) o e in
         rw t.1.0 (key_up _ o t.1.1 v)
 
     entered : (i : ℕ) (y : Seek) (o : Answer Order) → not_below o ≡ true → next_then o i y ≡ At i
-    entered i y (got Below) z = absurd (let u : ◌≡◌ {A = ℕ} 0 1 = cc in omega arith)
-    entered i y (got Inside) z = refl
-    entered i y (got Above) z = refl
-    entered i y (no w) z = absurd (let u : ◌≡◌ {A = ℕ} 0 1 = cc in omega arith)
+    entered i y (Ok Below) z = absurd (let u : ◌≡◌ {A = ℕ} 0 1 = cc in omega arith)
+    entered i y (Ok Inside) z = refl
+    entered i y (Ok Above) z = refl
+    entered i y (Err w) z = absurd (let u : ◌≡◌ {A = ℕ} 0 1 = cc in omega arith)
 
     -- the same entry is gone into, unless the one behind it is below
     follow_up : (n i j : ℕ) (a : Answer Order) (x y : Seek) → order_in b m info id kind (i + 1) ≡ a → suc n ≡ m.nkeys - i → (x ≡ At j → y ≡ At j) →
         (j ≡ i → i + 1 < m.nkeys → not_below (order_in b m info id k (i + 1)) ≡ true) → follow_then n a i x ≡ At j → follow_then n (order_in b m info id k (i + 1)) i y ≡ At j
     follow_up zero i j a x y t h e f g = g
-    follow_up (suc n) i j (got Below) x y t h e f g = rw (order_in_up (i + 1) Below t (λ z. let u : ◌≡◌ {A = ℕ} 0 1 = cc in omega arith)) (e g)
-    follow_up (suc n) i j (got Inside) x y t h e f g = let z : i ≡ j = cc in entered i y (order_in b m info id k (i + 1)) (f (sym z) (omega arith)) ∙ ap At z
-    follow_up (suc n) i j (got Above) x y t h e f g = let z : i ≡ j = cc in entered i y (order_in b m info id k (i + 1)) (f (sym z) (omega arith)) ∙ ap At z
-    follow_up (suc n) i j (no w) x y t h e f g = absurd (let u : ◌≡◌ {A = ℕ} 0 1 = cc in omega arith)
+    follow_up (suc n) i j (Ok Below) x y t h e f g = rw (order_in_up (i + 1) Below t (λ z. let u : ◌≡◌ {A = ℕ} 0 1 = cc in omega arith)) (e g)
+    follow_up (suc n) i j (Ok Inside) x y t h e f g = let z : i ≡ j = cc in entered i y (order_in b m info id k (i + 1)) (f (sym z) (omega arith)) ∙ ap At z
+    follow_up (suc n) i j (Ok Above) x y t h e f g = let z : i ≡ j = cc in entered i y (order_in b m info id k (i + 1)) (f (sym z) (omega arith)) ∙ ap At z
+    follow_up (suc n) i j (Err w) x y t h e f g = absurd (let u : ◌≡◌ {A = ℕ} 0 1 = cc in omega arith)
 
     here_up : (i j : ℕ) (a : Answer Order) (x y : Seek) → order_in b m info id kind i ≡ a → (x ≡ At j → y ≡ At j) → here_then a x ≡ At j → here_then (order_in b m info id k i) y ≡ At j
-    here_up i j (got Below) x y t e g = rw (order_in_up i Below t (λ z. let u : ◌≡◌ {A = ℕ} 0 1 = cc in omega arith)) (e g)
-    here_up i j (got Inside) x y t e g = rw (order_in_up i Inside t (λ z. let u : ◌≡◌ {A = ℕ} 0 1 = cc in omega arith)) (e g)
-    here_up i j (got Above) x y t e g = absurd (let u : ◌≡◌ {A = ℕ} 0 1 = cc in omega arith)
-    here_up i j (no w) x y t e g = absurd (let u : ◌≡◌ {A = ℕ} 0 1 = cc in omega arith)
+    here_up i j (Ok Below) x y t e g = rw (order_in_up i Below t (λ z. let u : ◌≡◌ {A = ℕ} 0 1 = cc in omega arith)) (e g)
+    here_up i j (Ok Inside) x y t e g = rw (order_in_up i Inside t (λ z. let u : ◌≡◌ {A = ℕ} 0 1 = cc in omega arith)) (e g)
+    here_up i j (Ok Above) x y t e g = absurd (let u : ◌≡◌ {A = ℕ} 0 1 = cc in omega arith)
+    here_up i j (Err w) x y t e g = absurd (let u : ◌≡◌ {A = ℕ} 0 1 = cc in omega arith)
 
     seek_up_by : (n i j : ℕ) → n ≡ m.nkeys - i → (j + 1 < m.nkeys → not_below (order_in b m info id k (j + 1)) ≡ true) → seek_in b m info id kind n i ≡ At j → seek_in b m info id k n i ≡ At j
     unfolding seek_in
@@ -89,17 +87,17 @@ module _ (id kind k : ℕ) (lt : kind < k) where
         (follow_up n i j (order_in b m info id kind (i + 1)) _ _ refl h (seek_up_by n (i + 1) j (omega arith) f) (λ z l. rw z at (f (rw z l)))) e
 
     -- an entry of a leaf that the one passes over, the other passes over; and so the one's record
-    ordered_up : (i : ℕ) (x : KeyValue) (o : Order) → key_value_at b m info i ≡ got x → key_order id kind (part_of b x.key) ≡ got o → (o ≡ Above → ⊥) → item_in b m info id k i ≡ got pass_over
+    ordered_up : (i : ℕ) (x : KeyValue) (o : Order) → key_value_at b m info i ≡ Ok x → key_order id kind (part_of b x.key) ≡ Ok o → (o ≡ Above → ⊥) → item_in b m info id k i ≡ Ok pass_over
     unfolding item_in by_order
     ordered_up i x o t e v = rw (t, key_up (part_of b x.key) o e v)
 
-    above_ends : (o : Order) (x y : Leaf) → by_order {A = Answer Leaf} o (got pass_over) (got x) (got end_scan) ≡ got y → o ≡ Above → y ≡ end_scan
+    above_ends : (o : Order) (x y : Leaf) → by_order {A = Answer Leaf} o (Ok pass_over) (Ok x) (Ok end_scan) ≡ Ok y → o ≡ Above → y ≡ end_scan
     unfolding by_order
     above_ends Below x y e z = absurd (let u : ◌≡◌ {A = ℕ} 0 1 = cc in omega arith)
     above_ends Inside x y e z = absurd (let u : ◌≡◌ {A = ℕ} 0 1 = cc in omega arith)
     above_ends Above x y e z = cc
 
-    item_up : (i : ℕ) (y : Leaf) → item_in b m info id kind i ≡ got y → (y ≡ end_scan → ⊥) → item_in b m info id k i ≡ got pass_over
+    item_up : (i : ℕ) (y : Leaf) → item_in b m info id kind i ≡ Ok y → (y ≡ end_scan → ⊥) → item_in b m info id k i ≡ Ok pass_over
     unfolding item_in
     item_up i y e v =
         let t = bound (key_value_at b m info i) _ y e in
@@ -117,15 +115,15 @@ module _ (b : List ℕ) (q : Search) (m : Node) (k : ℕ) (lt : q.keys.kind < k)
         (y ≡ leaf.At p a → leaf_from b (kinded q k) m (m.nkeys - (a - 1)) (a - 1) s t ≡ leaf_from b (kinded q k) m n (i + 1) s t) →
         item_then x (i + 1) y ≡ leaf.At p a → leaf_from b (kinded q k) m (m.nkeys - (a - 1)) (a - 1) s t ≡ leaf_from b (kinded q k) m (suc n) i s t
     unfolding leaf_then leaf_from
-    leaf_up_step n i (got pass_over) y h g e f =
-        let z : item_at b (kinded q k) m i ≡ got pass_over = item_up q.keys.id q.keys.kind k lt (bytes_of b q m) m q.keys.info i pass_over g (λ w. let u : ◌≡◌ {A = ℕ} 0 1 = cc in omega arith) in
+    leaf_up_step n i (Ok pass_over) y h g e f =
+        let z : item_at b (kinded q k) m i ≡ Ok pass_over = item_up q.keys.id q.keys.kind k lt (bytes_of b q m) m q.keys.info i pass_over g (λ w. let u : ◌≡◌ {A = ℕ} 0 1 = cc in omega arith) in
         e f ∙ rw z
-    leaf_up_step n i (got end_scan) y h g e f = absurd (let u : ◌≡◌ {A = ℕ} 0 1 = cc in omega arith)
-    leaf_up_step n i (got (record_at w)) y h g e f =
+    leaf_up_step n i (Ok end_scan) y h g e f = absurd (let u : ◌≡◌ {A = ℕ} 0 1 = cc in omega arith)
+    leaf_up_step n i (Ok (record_at w)) y h g e f =
         let z : i + 1 ≡ a = cc in
         let j : a - 1 ≡ i = omega arith in
         rw (j, ← h)
-    leaf_up_step n i (no w) y h g e f = absurd (let u : ◌≡◌ {A = ℕ} 0 1 = cc in omega arith)
+    leaf_up_step n i (Err w) y h g e f = absurd (let u : ◌≡◌ {A = ℕ} 0 1 = cc in omega arith)
 
     leaf_up_by : (n i : ℕ) → n ≡ m.nkeys - i → in_leaf (bytes_of b q m) m q.keys.info q.keys.id q.keys.kind n i ≡ leaf.At p a →
         leaf_from b (kinded q k) m (m.nkeys - (a - 1)) (a - 1) s t ≡ leaf_from b (kinded q k) m n i s t
@@ -142,12 +140,12 @@ module _ (b : List ℕ) (q : Search) (m : Node) (i : ℕ) where
   unfolding stays_at
   stays_last h = at_most_lem _ _ _ _ _ h refl
 
-  module _ (h : i < m.nkeys) (u : List ℕ) (e : u ≡ bytes_of b q m) (r : Ordered) (t : order_told r ≡ order_in u m q.keys.info q.keys.id q.keys.kind i) where
-    stays_by : not_below (order_told r) ≡ stays_at b q m i
+  module _ (h : i < m.nkeys) (u : List ℕ) (e : u ≡ bytes_of b q m) (r : Answer Order) (t : r ≡ order_in u m q.keys.info q.keys.id q.keys.kind i) where
+    stays_by : not_below r ≡ stays_at b q m i
     unfolding stays_at
     stays_by = above _ _ _ _ _ h (rw (t, e))
 
-    module _ (o : Order) (g : r ≡ ordered.Got o) where
+    module _ (o : Order) (g : r ≡ Ok o) where
       pub stays_below : o ≡ Below → false ≡ stays_at b q m i
       stays_below f = rw (g, f) at stays_by
 
@@ -157,7 +155,7 @@ module _ (b : List ℕ) (q : Search) (m : Node) (i : ℕ) where
       pub stays_above : o ≡ Above → true ≡ stays_at b q m i
       stays_above f = rw (g, f) at stays_by
 
-    pub stays_no : (w : Refusal) → r ≡ ordered.No w → false ≡ stays_at b q m i
+    pub stays_no : (w : Refusal) → r ≡ Err w → false ≡ stays_at b q m i
     stays_no w g = rw g at stays_by
 
 pub ruleset staying = (rules, stays_last, stays_below, stays_inside, stays_above, stays_no)

@@ -2,34 +2,31 @@
 use Prim.Native.Nat.{ℕ, ◌≤◌, ◌<◌}
 use mathlib.Core.Path.{◌≡◌, refl, sym, ap, ◌∙◌}
 use mathlib.Core.List.{List}
-use Rattle.error.specs.Answer.{Answer, got, no, ◌>>=◌, if_le}
+use Rattle.error.specs.Answer.{Answer, Ok, Err, ◌>>=◌, if_le}
 use Rattle.error.specs.declared.Refusal.{Refusal}
 use Rattle.error.proofs.Laws.{at_most_lem, above}
 use Rattle.byte_fields.specs.Number as bytes
 use Rattle.byte_fields.specs.Part.{part_of}
-use Rattle.byte_fields.specs.declared.Number.{Number}
 use Rattle.byte_fields.specs.declared.Span.{Span}
-use Rattle.node.specs.Node.{parsed}
 use Rattle.node.specs.Entry.{child_at}
 use Rattle.node.specs.Place.{place_of}
 use Rattle.node.specs.declared.place.Place.{Place}
 use Rattle.node.specs.declared.table.KeyValue.{KeyValue}
 use Rattle.node.specs.declared.layout.Node.{Node}
 use Rattle.node.specs.declared.layout.Info.{Info}
-use Rattle.node.specs.declared.layout.Parsed.{Parsed}
-use Rattle.node.specs.declared.table.Value.{Value}
-use Rattle.lookup.specs.Counted.{Counted, after, onto}
+use Rattle.lookup.specs.declared.counted.Counted.{Counted}
+use Rattle.lookup.specs.Counted.{after, onto}
 use Rattle.lookup.specs.Path.{Through, at_once, by, on, count_along, counted}
 use Rattle.lookup.specs.Read.{node_at}
 use Rattle.lookup.specs.Map.{resolve, resolve_at}
 use Rattle.lookup.proofs.Laws as lookup-laws
-use Rattle.btree.specs.Entries.{order_told, key_order, by_order, valued, record_of, pass_over, record_at, Act, into, child_node}
+use Rattle.btree.specs.Entries.{key_order, by_order, valued, record_of, pass_over, record_at, Act, into, child_node}
 use Rattle.btree.specs.declared.entries.Search.{Search}
 use Rattle.btree.specs.declared.entries.Order.{Order}
 use Rattle.btree.specs.declared.entries.Order.TheVariants as order
-use Rattle.btree.specs.declared.entries.Ordered.{Ordered}
+use Rattle.std.specs.Prelude.{None, Option, Some}
 
-pub got_same : {A : Type 0} (a b : A) → a ≡ b → got a ≡ got b
+pub got_same : {A : Type 0} (a b : A) → a ≡ b → ◌≡◌ {A = Answer _} (Ok a) (Ok b)
 got_same a b e = rw e
 
 pub counted_same : {A : Type 0} (s t : ℕ) (a : Answer A) → s ≡ t → after s a ≡ after t a
@@ -49,25 +46,25 @@ module _ {A : Type 0} (o : Order) (x y z w : A) where
   unfolding by_order
   order_above q h = rw q h
 
-module _ {B : Type 0} (r : Ordered) (a : Answer Order) (p : order_told r ≡ a) where
-  pub order_step : (f : Order → Answer B) (x : Order) (y : Answer B) → r ≡ Ordered.Got x → y ≡ f x → y ≡ (a >>= f)
+module _ {B : Type 0} (r : Answer Order) (a : Answer Order) (p : r ≡ a) where
+  pub order_step : (f : Order → Answer B) (x : Order) (y : Answer B) → r ≡ Ok x → y ≡ f x → y ≡ (a >>= f)
   order_step f x y q h = rw (← p, q) h
 
-  pub order_stop : (f : Order → Answer B) (e : Refusal) → r ≡ Ordered.No e → no e ≡ (a >>= f)
+  pub order_stop : (f : Order → Answer B) (e : Refusal) → r ≡ Err e → Err e ≡ (a >>= f)
   order_stop f e q = rw (← p, q)
 
-  pub order_on : (f : Order → Through B) (s : ℕ) (x : Order) (y : Counted B) → r ≡ Ordered.Got x → y ≡ counted s (f x) → y ≡ counted s (on a f)
+  pub order_on : (f : Order → Through B) (s : ℕ) (x : Order) (y : Counted B) → r ≡ Ok x → y ≡ counted s (f x) → y ≡ counted s (on a f)
   order_on f s x y q h = rw (← p, q) h
 
-  pub order_off : (f : Order → Through B) (s : ℕ) (e : Refusal) → r ≡ Ordered.No e → after s (no e) ≡ counted s (on a f)
+  pub order_off : (f : Order → Through B) (s : ℕ) (e : Refusal) → r ≡ Err e → after s (Err e) ≡ counted s (on a f)
   unfolding counted count_along
   order_off f s e q = rw (← p, q)
 
-module _ {B : Type 0} (r : Parsed) (a : Answer Node) (p : parsed r ≡ a) (f : Node → Through B) (s : ℕ) where
-  pub node_on_lem : (x : Node) (y : Counted B) → r ≡ Parsed.Got x → y ≡ counted s (f x) → y ≡ counted s (on a f)
+module _ {B : Type 0} (r : Answer Node) (a : Answer Node) (p : r ≡ a) (f : Node → Through B) (s : ℕ) where
+  pub node_on_lem : (x : Node) (y : Counted B) → r ≡ Ok x → y ≡ counted s (f x) → y ≡ counted s (on a f)
   node_on_lem x y q h = rw (← p, q) h
 
-  pub node_off : (e : Refusal) → r ≡ Parsed.No e → after s (no e) ≡ counted s (on a f)
+  pub node_off : (e : Refusal) → r ≡ Err e → after s (Err e) ≡ counted s (on a f)
   unfolding counted count_along
   node_off e q = rw (← p, q)
 
@@ -91,7 +88,7 @@ module _ {A : Type 0} (s : ℕ) (o : Order) (x y z : Through A) (w : Counted A) 
 
 -- a child, its name having been looked up
 pub child_node_lem : (b : List ℕ) (q : Search) (child s : ℕ) (z : Counted Act) →
-    z ≡ (onto (resolve_at q.keys.reader b q.resolve child s) λ p n. counted n (on (node_at q.keys.reader b p) λ c. by p (at_once (got (into c))))) → z ≡ counted s (child_node b q child)
+    z ≡ (onto (resolve_at q.keys.reader b q.resolve child s) λ p n. counted n (on (node_at q.keys.reader b p) λ c. by p (at_once (Ok (into c))))) → z ≡ counted s (child_node b q child)
 unfolding child_node resolve_at
 child_node_lem b q child s z e = lookup-laws.counted_then s (resolve q.keys.reader b q.resolve child) _ z e
 
@@ -100,17 +97,17 @@ module _ (s u : List ℕ) (e : s ≡ u) where
   pub order_of_part : (id kind : ℕ) (z : Answer Order) → z ≡ key_order id kind s → z ≡ key_order id kind u
   order_of_part id kind z h = rw e at h
 
-  pub order_step_in : {B : Type 0} (id kind : ℕ) (r : Ordered) (f : Order → Answer B) (x : Order) (y : Answer B) → order_told r ≡ key_order id kind s → r ≡ Ordered.Got x → y ≡ f x → y ≡ (key_order id kind u >>= f)
+  pub order_step_in : {B : Type 0} (id kind : ℕ) (r : Answer Order) (f : Order → Answer B) (x : Order) (y : Answer B) → r ≡ key_order id kind s → r ≡ Ok x → y ≡ f x → y ≡ (key_order id kind u >>= f)
   order_step_in id kind r f x y p g h = order_step r (key_order id kind u) (rw e at p) f x y g h
 
-  pub order_stop_in : {B : Type 0} (id kind : ℕ) (r : Ordered) (f : Order → Answer B) (w : Refusal) → order_told r ≡ key_order id kind s → r ≡ Ordered.No w → no w ≡ (key_order id kind u >>= f)
+  pub order_stop_in : {B : Type 0} (id kind : ℕ) (r : Answer Order) (f : Order → Answer B) (w : Refusal) → r ≡ key_order id kind s → r ≡ Err w → Err w ≡ (key_order id kind u >>= f)
   order_stop_in id kind r f w p g = order_stop r (key_order id kind u) (rw e at p) f w g
 
-  module _ {B : Type 0} (m : Node) (info : Info) (i : ℕ) (r : Number) (p : bytes.told r ≡ child_at s m info i) (f : ℕ → Through B) (n : ℕ) where
-    pub child_on_in : (x : ℕ) (y : Counted B) → r ≡ Number.Got x → y ≡ counted n (f x) → y ≡ counted n (on (child_at u m info i) f)
+  module _ {B : Type 0} (m : Node) (info : Info) (i : ℕ) (r : Answer ℕ) (p : r ≡ child_at s m info i) (f : ℕ → Through B) (n : ℕ) where
+    pub child_on_in : (x : ℕ) (y : Counted B) → r ≡ Ok x → y ≡ counted n (f x) → y ≡ counted n (on (child_at u m info i) f)
     child_on_in x y q h = rw (← e, ← p, q) h
 
-    pub child_off_in : (w : Refusal) → r ≡ Number.No w → after n (no w) ≡ counted n (on (child_at u m info i) f)
+    pub child_off_in : (w : Refusal) → r ≡ Err w → after n (Err w) ≡ counted n (on (child_at u m info i) f)
     unfolding counted count_along
     child_off_in w q = rw (← e, ← p, q)
 
@@ -118,11 +115,11 @@ module _ (s u : List ℕ) (e : s ≡ u) where
   part_in x z h = rw e at h
 
 module _ (m : Node) (e : KeyValue) where
-  pub record_there : (v : Span) (p : Place) → e.value ≡ Value.At v → p ≡ place_of m.block e → got (record_at p) ≡ got (record_of m e)
+  pub record_there : (v : Span) (p : Place) → e.value ≡ Some v → p ≡ place_of m.block e → ◌≡◌ {A = Answer _} (Ok (record_at p)) (Ok (record_of m e))
   unfolding record_of
-  record_there v p q h = ap (λ (x : Place). got (record_at x)) h ∙ ap (λ (x : Value). got (valued x (place_of m.block e))) (sym q)
+  record_there v p q h = ap (λ (x : Place). Ok (record_at x)) h ∙ ap (λ (x : Option Span). Ok (valued x (place_of m.block e))) (sym q)
 
-  pub record_missing : e.value ≡ Value.Missing → got pass_over ≡ got (record_of m e)
+  pub record_missing : e.value ≡ None → ◌≡◌ {A = Answer _} (Ok pass_over) (Ok (record_of m e))
   unfolding record_of
   record_missing q = rw q
 

@@ -4,13 +4,11 @@ use mathlib.Core.Path.{◌≡◌, refl, sym, ap, ◌∙◌}
 use mathlib.Core.List.{List}
 use native.Mathlib.Omega.{arith}
 use borrow.Author.Rules.{rules}
-use Rattle.error.specs.Answer.{Answer, got, no, ◌>>=◌}
+use Rattle.error.specs.Answer.{Answer, Ok, Err, ◌>>=◌}
 use Rattle.error.specs.declared.Refusal.{Refusal}
 use Rattle.node.specs.declared.layout.Node.{Node}
 use Rattle.node.specs.declared.layout.Info.{Info}
 use Rattle.node.specs.declared.table.KeyValue.{KeyValue}
-use Rattle.node.specs.declared.table.Value.{Value}
-use Rattle.node.specs.declared.table.Value.TheVariants as value
 use Rattle.node.specs.Entry.{key_value_at}
 use Rattle.node.specs.Place.{place_of}
 use Rattle.node.proofs.Held.{held_block}
@@ -26,6 +24,8 @@ use Rattle.btree.specs.declared.entries.Order.TheVariants.{Below, Inside, Above}
 use Rattle.btree.specs.declared.entries.Item.TheVariants as item
 use Rattle.btree.specs.declared.leaf.InLeaf.{InLeaf}
 use Rattle.btree.specs.declared.leaf.InLeaf.TheVariants.{At, Passed, End, No}
+use Rattle.std.specs.Prelude.{None, Option, Some}
+use Rattle.byte_fields.specs.declared.Span.{Span}
 
 -- the turns of the loop that looks for the first record
 module _ (b : List ℕ) (m : Node) (info : Info) (id kind i : ℕ) (whole : InLeaf) (p : in_leaf b m info id kind (m.nkeys - i) i ≡ whole) where
@@ -55,10 +55,10 @@ pub ruleset inside = (rules, in_done, in_pass, in_stop, in_at, in_no)
 -- the entry after a record lies behind, and within the leaf
 module _ (b : List ℕ) (m : Node) (info : Info) (id kind : ℕ) (p : Place) (a : ℕ) where
   bound_step : (n i : ℕ) → suc n ≡ m.nkeys - i → (x : Answer Leaf) (k : InLeaf) → (k ≡ At p a → (i + 1 < a) × (a ≤ m.nkeys)) → item_then x (i + 1) k ≡ At p a → (i < a) × (a ≤ m.nkeys)
-  bound_step n i h (got pass_over) k e g = (omega (arith, e g), omega (arith, e g))
-  bound_step n i h (got end_scan) k e g = absurd (let z : ◌≡◌ {A = ℕ} 0 1 = cc in omega arith)
-  bound_step n i h (got (record_at y)) k e g = let z : i + 1 ≡ a = cc in (omega arith, omega arith)
-  bound_step n i h (no w) k e g = absurd (let z : ◌≡◌ {A = ℕ} 0 1 = cc in omega arith)
+  bound_step n i h (Ok pass_over) k e g = (omega (arith, e g), omega (arith, e g))
+  bound_step n i h (Ok end_scan) k e g = absurd (let z : ◌≡◌ {A = ℕ} 0 1 = cc in omega arith)
+  bound_step n i h (Ok (record_at y)) k e g = let z : i + 1 ≡ a = cc in (omega arith, omega arith)
+  bound_step n i h (Err w) k e g = absurd (let z : ◌≡◌ {A = ℕ} 0 1 = cc in omega arith)
 
   pub bound_in : (n i : ℕ) → n ≡ m.nkeys - i → in_leaf b m info id kind n i ≡ At p a → (i < a) × (a ≤ m.nkeys)
   unfolding in_leaf
@@ -73,20 +73,20 @@ module _ (b : List ℕ) (q : Search) (m : Node) (n i : ℕ) (h : suc n ≡ m.nke
   leaf_step : (s : ℕ) (k : Run) (a : Answer Leaf) → leaf_from b q m n (i + 1) s k ≡ in_then b q m later s k →
       leaf_then a s (leaf_from b q m n (i + 1) s k) ≡ in_then b q m (item_then a (i + 1) later) s k
   unfolding leaf_then
-  leaf_step s k (got pass_over) e = e
-  leaf_step s k (got end_scan) e = refl
-  leaf_step s k (got (record_at p)) e = let j : n ≡ m.nkeys - (i + 1) = omega arith in ap (λ (x : ℕ). more p s (leaf_from b q m x (i + 1) s k)) j
-  leaf_step s k (no w) e = refl
+  leaf_step s k (Ok pass_over) e = e
+  leaf_step s k (Ok end_scan) e = refl
+  leaf_step s k (Ok (record_at p)) e = let j : n ≡ m.nkeys - (i + 1) = omega arith in ap (λ (x : ℕ). more p s (leaf_from b q m x (i + 1) s k)) j
+  leaf_step s k (Err w) e = refl
 
   back_step : (p : Place) (a : ℕ) (x : Answer Leaf) → item_at b q m i ≡ x → (later ≡ At p a → in_node b q m (a - 1) ≡ At p a) → item_then x (i + 1) later ≡ At p a → in_node b q m (a - 1) ≡ At p a
   unfolding in_leaf
-  back_step p a (got pass_over) t e g = e g
-  back_step p a (got end_scan) t e g = absurd (let z : ◌≡◌ {A = ℕ} 0 1 = cc in omega arith)
-  back_step p a (got (record_at y)) t e g =
+  back_step p a (Ok pass_over) t e g = e g
+  back_step p a (Ok end_scan) t e g = absurd (let z : ◌≡◌ {A = ℕ} 0 1 = cc in omega arith)
+  back_step p a (Ok (record_at y)) t e g =
       let z : i + 1 ≡ a = cc in
       let j : a - 1 ≡ i = omega arith in
       rw (j, ← h, t) g
-  back_step p a (no w) t e g = absurd (let z : ◌≡◌ {A = ℕ} 0 1 = cc in omega arith)
+  back_step p a (Err w) t e g = absurd (let z : ◌≡◌ {A = ℕ} 0 1 = cc in omega arith)
 
 module _ (b : List ℕ) (q : Search) (m : Node) where
   leaf_by : (n i s : ℕ) (k : Run) → n ≡ m.nkeys - i → leaf_from b q m n i s k ≡ in_then b q m (in_leaf (bytes_of b q m) m q.keys.info q.keys.id q.keys.kind n i) s k
@@ -119,29 +119,29 @@ module _ (b : List ℕ) (m : Node) (info : Info) (id kind : ℕ) (p : Place) whe
   unfolding record_of
   of_record e = of e.value
     where
-      of : (v : Value) → valued v (place_of m.block e) ≡ record_at p → p.block ≡ m.block
-      of (value.At v) h = let z : place_of m.block e ≡ p = cc in ap (λ (x : Place). x.block) (sym z) ∙ held_block m.block e
-      of value.Missing h = absurd (let z : ◌≡◌ {A = ℕ} 0 1 = cc in omega arith)
+      of : (v : Option Span) → valued v (place_of m.block e) ≡ record_at p → p.block ≡ m.block
+      of (Some v) h = let z : place_of m.block e ≡ p = cc in ap (λ (x : Place). x.block) (sym z) ∙ held_block m.block e
+      of None h = absurd (let z : ◌≡◌ {A = ℕ} 0 1 = cc in omega arith)
 
-  of_order : (e : KeyValue) (o : Order) → by_order o (got pass_over) (got (record_of m e)) (got end_scan) ≡ got (record_at p) → p.block ≡ m.block
+  of_order : (e : KeyValue) (o : Order) → ◌≡◌ {A = Answer Leaf} (by_order {A = Answer Leaf} o (Ok pass_over) (Ok (record_of m e)) (Ok end_scan)) (Ok (record_at p)) → p.block ≡ m.block
   unfolding by_order
   of_order e Below h = absurd (let z : ◌≡◌ {A = ℕ} 0 1 = cc in omega arith)
   of_order e Inside h = of_record e cc
   of_order e Above h = absurd (let z : ◌≡◌ {A = ℕ} 0 1 = cc in omega arith)
 
-  of_key : (e : KeyValue) (x : Answer Order) → (x >>= λ o. by_order o (got pass_over) (got (record_of m e)) (got end_scan)) ≡ got (record_at p) → p.block ≡ m.block
-  of_key e (got o) h = of_order e o h
-  of_key e (no w) h = absurd (let z : ◌≡◌ {A = ℕ} 0 1 = cc in omega arith)
+  of_key : (e : KeyValue) (x : Answer Order) → (x >>= λ o. by_order o (Ok pass_over) (Ok (record_of m e)) (Ok end_scan)) ≡ Ok (record_at p) → p.block ≡ m.block
+  of_key e (Ok o) h = of_order e o h
+  of_key e (Err w) h = absurd (let z : ◌≡◌ {A = ℕ} 0 1 = cc in omega arith)
 
-  of_entry : (x : Answer KeyValue) → (x >>= λ e. key_order id kind (part_of b e.key) >>= λ o. by_order o (got pass_over) (got (record_of m e)) (got end_scan)) ≡ got (record_at p) → p.block ≡ m.block
-  of_entry (got e) h = of_key e (key_order id kind (part_of b e.key)) h
-  of_entry (no w) h = absurd (let z : ◌≡◌ {A = ℕ} 0 1 = cc in omega arith)
+  of_entry : (x : Answer KeyValue) → (x >>= λ e. key_order id kind (part_of b e.key) >>= λ o. by_order o (Ok pass_over) (Ok (record_of m e)) (Ok end_scan)) ≡ Ok (record_at p) → p.block ≡ m.block
+  of_entry (Ok e) h = of_key e (key_order id kind (part_of b e.key)) h
+  of_entry (Err w) h = absurd (let z : ◌≡◌ {A = ℕ} 0 1 = cc in omega arith)
 
-  of_item : (x : Answer Leaf) (a j : ℕ) (k : InLeaf) → (x ≡ got (record_at p) → p.block ≡ m.block) → (k ≡ At p a → p.block ≡ m.block) → item_then x j k ≡ At p a → p.block ≡ m.block
-  of_item (got pass_over) a j k g t e = t e
-  of_item (got end_scan) a j k g t e = absurd (let z : ◌≡◌ {A = ℕ} 0 1 = cc in omega arith)
-  of_item (got (record_at y)) a j k g t e = g cc
-  of_item (no w) a j k g t e = absurd (let z : ◌≡◌ {A = ℕ} 0 1 = cc in omega arith)
+  of_item : (x : Answer Leaf) (a j : ℕ) (k : InLeaf) → (x ≡ Ok (record_at p) → p.block ≡ m.block) → (k ≡ At p a → p.block ≡ m.block) → item_then x j k ≡ At p a → p.block ≡ m.block
+  of_item (Ok pass_over) a j k g t e = t e
+  of_item (Ok end_scan) a j k g t e = absurd (let z : ◌≡◌ {A = ℕ} 0 1 = cc in omega arith)
+  of_item (Ok (record_at y)) a j k g t e = g cc
+  of_item (Err w) a j k g t e = absurd (let z : ◌≡◌ {A = ℕ} 0 1 = cc in omega arith)
 
   pub in_block : (n i a : ℕ) → in_leaf b m info id kind n i ≡ At p a → p.block ≡ m.block
   unfolding in_leaf item_in

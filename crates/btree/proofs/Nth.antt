@@ -2,23 +2,23 @@
 use Prim.Native.Nat.{ℕ, zero, suc, ◌-◌, ◌≤◌, ◌<◌}
 use mathlib.Core.Path.{◌≡◌, refl, sym, ap, ◌∙◌}
 use mathlib.Core.List.{List}
-use mathlib.Core.Option.{Option, none, some}
+use Rattle.std.specs.Prelude.{Option, None, Some}
 use native.Mathlib.Omega.{arith}
 use borrow.Author.Rules.{rules}
-use Rattle.error.specs.Answer.{got, no}
+use Rattle.error.specs.Answer.{Ok, Err, Answer}
 use Rattle.error.specs.declared.Refusal.{Refusal}
 use Rattle.error.specs.declared.Refusal.TheVariants.{Corrupt}
 use Rattle.arith.specs.Checked.{ticked}
 use Rattle.node.specs.Node.{leaf_bit}
 use Rattle.node.specs.declared.layout.Node.{Node}
-use Rattle.lookup.specs.Counted.{Counted, after}
-use Rattle.btree.specs.Scan.{Run, more, end, refused, Tail, scan_of, nth, found_told}
+use Rattle.lookup.specs.declared.counted.Counted.{Counted}
+use Rattle.lookup.specs.Counted.{after}
+use Rattle.btree.specs.Scan.{Run, more, end, refused, Tail, scan_of, nth}
 use Rattle.btree.specs.Inner.{leaf_from, in_leaf, in_node, each, Reaches, node, child, walk, met, pass_told, found_of}
 use Rattle.btree.specs.Entries.{bytes_of}
 use Rattle.btree.specs.declared.entries.Keys.{Keys}
 use Rattle.btree.specs.declared.entries.Search.{Search}
 use Rattle.node.specs.declared.place.Place.{Place}
-use Rattle.btree.specs.declared.entries.Found.{Found}
 use Rattle.btree.specs.declared.leaf.InLeaf.{InLeaf}
 use Rattle.btree.specs.declared.leaf.InLeaf.TheVariants as leaf
 use Rattle.btree.specs.declared.seek.Turned.{Turned}
@@ -30,21 +30,21 @@ use Rattle.btree.proofs.Leaves.{bound_in}
 use Rattle.btree.proofs.Turns.{leaf_passed, leaf_end, leaf_at, leaf_no, each_over, each_stop, each_into, each_no, node_leaf, node_index, child_lowest, child_off, child_on, root_low, root_high}
 
 -- a refusal at the root
-pub found_no : (p : Pass) (e : Refusal) → p ≡ No e → Found.No e ≡ found_of p
+pub found_no : (p : Pass) (e : Refusal) → p ≡ No e → Err e ≡ found_of p
 found_no p e h = rw h
 
-pub nth_end : (n s : ℕ) → after s (got none) ≡ nth n (end s)
+pub nth_end : (n s : ℕ) → after s (Ok None) ≡ nth n (end s)
 unfolding nth
 nth_end zero s = refl
 nth_end (suc n) s = refl
 
-pub nth_refused : (n s : ℕ) (e : Refusal) → after s (no e) ≡ nth n (refused e s)
+pub nth_refused : (n s : ℕ) (e : Refusal) → after s (Err e) ≡ nth n (refused e s)
 unfolding nth
 nth_refused zero s e = refl
 nth_refused (suc n) s e = refl
 
 module _ (n : ℕ) (p : Place) (s : ℕ) (r : Run) (whole : Counted (Option Place)) (h : nth n (more p s r) ≡ whole) where
-  pub nth_here : n ≡ 0 → after s (got (some p)) ≡ whole
+  pub nth_here : n ≡ 0 → after s (Ok (Some p)) ≡ whole
   unfolding nth
   nth_here z = rw z at h
 
@@ -57,17 +57,17 @@ module _ (b : List ℕ) (q : Search) (m : Node) (i n s : ℕ) (k : Run) (whole :
   pub pass_over_lem : r ≡ leaf.Passed → nth n k ≡ whole
   pass_over_lem e = ap (nth n) (leaf_passed b q m i s k _ refl r t e) ∙ p
 
-  pub pass_end : r ≡ leaf.End → after s (got none) ≡ whole
+  pub pass_end : r ≡ leaf.End → after s (Ok None) ≡ whole
   pass_end e = nth_end n s ∙ (ap (nth n) (leaf_end b q m i s k _ refl r t e) ∙ p)
 
-  pub pass_no : (w : Refusal) → r ≡ leaf.No w → after s (no w) ≡ whole
+  pub pass_no : (w : Refusal) → r ≡ leaf.No w → after s (Err w) ≡ whole
   pass_no w e = nth_refused n s w ∙ (ap (nth n) (leaf_no b q m i s k _ refl r t w e) ∙ p)
 
   module _ (x : Place) (a : ℕ) (e : r ≡ leaf.At x a) where
     there : nth n (more x s (leaf_from b q m (m.nkeys - a) a s k)) ≡ whole
     there = ap (nth n) (leaf_at b q m i s k _ refl r t x a e) ∙ p
 
-    pub pass_here : n ≡ 0 → after s (got (some x)) ≡ whole
+    pub pass_here : n ≡ 0 → after s (Ok (Some x)) ≡ whole
     pass_here z = nth_here n _ _ _ whole there z
 
     pub pass_past : (n ≡ 0 → ⊥) → nth (n - 1) (leaf_from b q m (m.nkeys - a) a s k) ≡ whole
@@ -90,11 +90,11 @@ module _ (r : Passed) (s : ℕ) (k : Tail) (whole : Counted (Option Place)) wher
   unfolding pass_told
   made_left x e h = rw e h
 
-  pub made_end : r ≡ record { pass = End; nodes = s } → after s (got none) ≡ whole → pass_told r k ≡ whole
+  pub made_end : r ≡ record { pass = End; nodes = s } → after s (Ok None) ≡ whole → pass_told r k ≡ whole
   unfolding pass_told
   made_end e h = rw e h
 
-  pub made_no : (w : Refusal) → r ≡ record { pass = No w; nodes = s } → after s (no w) ≡ whole → pass_told r k ≡ whole
+  pub made_no : (w : Refusal) → r ≡ record { pass = No w; nodes = s } → after s (Err w) ≡ whole → pass_told r k ≡ whole
   unfolding pass_told
   made_no w e h = rw e h
 
@@ -133,10 +133,10 @@ module _ (f : Node → Tail → Tail) (b : List ℕ) (q : Search) (m : Node) (i 
   pub turn_over : r.turn ≡ turn.Over → nth n (k r.nodes) ≡ whole
   turn_over e = ap (nth n) (each_over f b q m i k c _ refl r t e) ∙ p
 
-  pub turn_stop : r.turn ≡ turn.Stop → after r.nodes (got none) ≡ whole
+  pub turn_stop : r.turn ≡ turn.Stop → after r.nodes (Ok None) ≡ whole
   turn_stop e = nth_end n r.nodes ∙ (ap (nth n) (each_stop f b q m i k c _ refl r t e) ∙ p)
 
-  pub turn_no : (w : Refusal) → r.turn ≡ turn.No w → after r.nodes (no w) ≡ whole
+  pub turn_no : (w : Refusal) → r.turn ≡ turn.No w → after r.nodes (Err w) ≡ whole
   turn_no w e = nth_refused n r.nodes w ∙ (ap (nth n) (each_no f b q m i k c _ refl r t w e) ∙ p)
 
   -- a child was gone into, and s came of it
@@ -159,10 +159,10 @@ pub ruleset indexes = (rules, made_left, made_end, made_no, final_at, final_end,
 
 -- a child, and a node
 module _ (b : List ℕ) (q : Search) (level n : ℕ) (m : Node) (k : Tail) (s : ℕ) where
-  pub pass_lowest : level ≡ 0 → after s (no Corrupt) ≡ nth n (child b q level m k s)
+  pub pass_lowest : level ≡ 0 → after s (Err Corrupt) ≡ nth n (child b q level m k s)
   pass_lowest h = nth_refused n s Corrupt ∙ ap (nth n) (child_lowest b q m k s level h)
 
-  pub pass_off : (level ≡ 0 → ⊥) → (m.level ≡ level - 1 → ⊥) → after s (no Corrupt) ≡ nth n (child b q level m k s)
+  pub pass_off : (level ≡ 0 → ⊥) → (m.level ≡ level - 1 → ⊥) → after s (Err Corrupt) ≡ nth n (child b q level m k s)
   pass_off h d = nth_refused n s Corrupt ∙ ap (nth n) (child_off b q m k s level h d)
 
   pub pass_in : (z : Counted (Option Place)) → (level ≡ 0 → ⊥) → m.level ≡ level - 1 → z ≡ nth n (walk b q (level - 1) m 0 k s) → z ≡ nth n (child b q level m k s)
@@ -180,15 +180,15 @@ pub ruleset nodes = (rules, made_no, pass_lowest, pass_off, pass_in, node_as_lea
 
 -- the root, which nothing follows
 module _ (b : List ℕ) (q : Search) (n s : ℕ) where
-  pub scan_high : 32 < q.root.level → after s (no Corrupt) ≡ nth n (scan_of b q s)
+  pub scan_high : 32 < q.root.level → after s (Err Corrupt) ≡ nth n (scan_of b q s)
   scan_high h = nth_refused n s Corrupt ∙ ap (nth n) (root_high b q s h)
 
-  pub scan_told : (r : Passed) (x : Found) (t : ℕ) → q.root.level ≤ 32 → t ≡ ticked s → x ≡ found_of r.pass →
-      ((k : Tail) → pass_told r k ≡ nth n (walk b q q.root.level q.root 0 k t)) → after r.nodes (found_told x) ≡ nth n (scan_of b q s)
+  pub scan_told : (r : Passed) (x : Answer (Option Place)) (t : ℕ) → q.root.level ≤ 32 → t ≡ ticked s → x ≡ found_of r.pass →
+      ((k : Tail) → pass_told r k ≡ nth n (walk b q q.root.level q.root 0 k t)) → after r.nodes x ≡ nth n (scan_of b q s)
   unfolding pass_told
   scan_told r x t h c g e = (rw g (of r.pass)) ∙ (e end ∙ ap (nth n) (root_low b q s t _ h c refl))
     where
-      of : (y : Pass) → after r.nodes (found_told (found_of y)) ≡ met y r.nodes (end r.nodes)
+      of : (y : Pass) → after r.nodes ((found_of y)) ≡ met y r.nodes (end r.nodes)
       of (At p) = refl
       of (Left k) = nth_end k r.nodes
       of End = refl

@@ -4,7 +4,7 @@ use mathlib.Core.Path.{◌≡◌, refl, sym, ap, ◌∙◌}
 use mathlib.Core.List.{List, [], ◌∷◌}
 use native.Mathlib.Nat.{sub-zero}
 use native.Mathlib.Decide.{ℕ_discrete}
-use Rattle.error.specs.Answer.{Answer, got, no}
+use Rattle.error.specs.Answer.{Answer, Ok, Err}
 use Rattle.error.specs.declared.Refusal.TheVariants.{Corrupt}
 use Rattle.error.proofs.Laws.{at_most_lem, above, same, other}
 use Rattle.arith.specs.Checked.{ticked}
@@ -42,10 +42,10 @@ tail_counted (failed e) j k s h = refl
 
 item_counted : (a : Answer Leaf) (y : Part) (k : Tail) (s : ℕ) → leaf_then a s (counted_part y k s) ≡ counted_part (item_part a then y) k s
 unfolding leaf_then item_part counted_part ◌then◌
-item_counted (got pass_over) y k s = refl
-item_counted (got end_scan) y k s = refl
-item_counted (got (record_at p)) y k s = refl
-item_counted (no e) y k s = refl
+item_counted (Ok pass_over) y k s = refl
+item_counted (Ok end_scan) y k s = refl
+item_counted (Ok (record_at p)) y k s = refl
+item_counted (Err e) y k s = refl
 
 module _ (b : List ℕ) (q : Search) where
   leaf_counted : (m : Node) (n i : ℕ) (k : Tail) (s : ℕ) → leaf_from b q m n i s (k s) ≡ counted_part (leaf_part b q m n i) k s
@@ -57,10 +57,10 @@ module _ (b : List ℕ) (q : Search) where
   module _ (f : Node → Tail → Tail) (g : Node → Part) (h : (c : Node) (k : Tail) (s : ℕ) → f c k s ≡ counted_part (g c) k s) where
     acting_counted : (a : Answer Act) (k : Tail) (s : ℕ) → acting f a k s ≡ counted_part (act_part g a) k s
     unfolding act_part counted_part
-    acting_counted (got stop) k s = refl
-    acting_counted (got skip) k s = refl
-    acting_counted (got (into c)) k s = h c k s
-    acting_counted (no e) k s = refl
+    acting_counted (Ok stop) k s = refl
+    acting_counted (Ok skip) k s = refl
+    acting_counted (Ok (into c)) k s = h c k s
+    acting_counted (Err e) k s = refl
 
     act_counted : (t : Through Act) (y : Part) (j k : Tail) (s : ℕ) → ((n : ℕ) → j n ≡ counted_part y k n) → act f (counted s t) j ≡ counted_part (turn_part g t then y) k s
     unfolding act counted turn_part

@@ -5,14 +5,13 @@ use mathlib.Core.List.{List}
 use native.Mathlib.Numerals.{sub-one}
 use native.Mathlib.Omega.{arith}
 use borrow.Author.Rules.{rules}
-use Rattle.error.specs.Answer.{if_eq}
+use Rattle.error.specs.Answer.{if_eq, Answer, Err}
 use Rattle.error.specs.declared.Refusal.{Refusal}
 use Rattle.error.specs.declared.Refusal.TheVariants.{Corrupt}
 use Rattle.error.proofs.Laws.{same, other}
 use Rattle.arith.specs.Checked.{ticked}
 use Rattle.node.specs.Node.{leaf_bit}
 use Rattle.node.specs.declared.layout.Node.{Node}
-use Rattle.node.specs.declared.layout.Parsed.{Parsed}
 use Rattle.btree.specs.Scan.{Run, more, end, refused, Tail, scan_of}
 use Rattle.btree.specs.Inner.{leaf_from, in_node, in_then, each, turn_of, turn_then, Reaches, node, child, walk}
 use Rattle.btree.specs.declared.entries.Search.{Search}
@@ -59,7 +58,7 @@ module _ (f : Node → Tail → Tail) (b : List ℕ) (q : Search) (m : Node) (i 
   each_no w e = rw e at turns_to
 
 -- a child that is not read
-pub turn_no : (n : Parsed) (e : Refusal) → n ≡ Parsed.No e → turn.No e ≡ turn_of n
+pub turn_no : (n : Answer Node) (e : Refusal) → n ≡ Err e → turn.No e ≡ turn_of n
 turn_no n e h = rw h
 
 -- a node, by its flag

@@ -1,7 +1,7 @@
 -- How many nodes a scan goes through. The buyer's note: "A node count must be the number on the defined path".
 -- What is stated here is proved in proofs/Count.antt.
 use Rattle.std.specs.Prelude.{ℕ, zero, suc, ◌+◌, ◌-◌, ◌^◌, ◌≤◌, min, ◌≡◌, List, [], ◌∷◌, ◌++◌, length}
-use Rattle.error.specs.Answer.{got}
+use Rattle.error.specs.Answer.{Ok}
 use Rattle.node.specs.Entry.{child_at}
 use Rattle.node.specs.declared.layout.Node.{Node}
 use Rattle.lookup.specs.Path.{Through}
@@ -26,10 +26,10 @@ path_to (suc k) (failed e) = []
 -- which blocks an entry of an index node has the scan go through: none where it is skipped or ends the scan,
 -- and where its child is gone into, those of a lookup of the child's name and then the child's own
 pub record EntryPath (b : List ℕ) (q : Search) (m : Node) (i : ℕ) (t : Through Act) : Type 0 where
-  pub stopped : t.answer ≡ got stop → t.path ≡ []
-  pub skipped : t.answer ≡ got skip → t.path ≡ []
-  pub entered : (c : Node) → t.answer ≡ got (into c) →
-      (child : ℕ) × (child_at (bytes_of b q m) m q.keys.info i ≡ got child) × (t.path ≡ name_path q.keys.reader b q.resolve child ++ (c.block ∷ []))
+  pub stopped : t.answer ≡ Ok stop → t.path ≡ []
+  pub skipped : t.answer ≡ Ok skip → t.path ≡ []
+  pub entered : (c : Node) → t.answer ≡ Ok (into c) →
+      (child : ℕ) × (child_at (bytes_of b q m) m q.keys.info i ≡ Ok child) × (t.path ≡ name_path q.keys.reader b q.resolve child ++ (c.block ∷ []))
 
 -- the count goes up by the length of the path, and stays at 2^64 − 1
 pub record CountsPath (b : List ℕ) (q : Search) : Type 0 where

@@ -1,6 +1,6 @@
 -- What a scan does at one entry of a node. Document 01, btree.rs, `scan`; Apple File System Reference, "File-System Objects", j_key_t.
-use Rattle.std.specs.Prelude.{ℕ, ◌+◌, ◌/◌, ◌%◌, ◌^◌, List}
-use Rattle.error.specs.Answer.{Answer, got, no, ◌>>=◌, if_le, if_eq}
+use Rattle.std.specs.Prelude.{ℕ, ◌+◌, ◌/◌, ◌%◌, ◌^◌, List, None, Option, Some}
+use Rattle.error.specs.Answer.{Answer, Ok, Err, ◌>>=◌, if_le, if_eq}
 use Rattle.byte_fields.specs.Number.{number_at}
 use Rattle.byte_fields.specs.Part.{part_of}
 use Rattle.obj.specs.Block.{block_of}
@@ -8,12 +8,9 @@ use Rattle.node.specs.Entry.{key_value_at, child_at}
 use Rattle.node.specs.Place.{place_of}
 use Rattle.node.specs.declared.layout.Node.{Node}
 use Rattle.node.specs.declared.layout.Info.{Info}
-use Rattle.node.specs.declared.layout.Parsed.{Parsed}
-use Rattle.node.specs.declared.layout.Parsed.TheVariants as parsed
 use Rattle.node.specs.declared.table.KeyValue.{KeyValue}
-use Rattle.node.specs.declared.table.Value.{Value}
-use Rattle.node.specs.declared.table.Value.TheVariants as value
-use Rattle.lookup.specs.Counted.{Counted, after}
+use Rattle.lookup.specs.declared.counted.Counted.{Counted}
+use Rattle.lookup.specs.Counted.{after}
 use Rattle.lookup.specs.Path.{Through, at_once, by, on, and_then}
 use Rattle.lookup.specs.Read.{node_at}
 use Rattle.lookup.specs.Map.{resolve}
@@ -21,19 +18,13 @@ use Rattle.btree.specs.declared.entries.Search.{Search}
 use Rattle.node.specs.declared.place.Place.{Place}
 use Rattle.btree.specs.declared.entries.Order.{Order}
 use Rattle.btree.specs.declared.entries.Order.TheVariants.{Below, Inside, Above}
-use Rattle.btree.specs.declared.entries.Ordered.{Ordered}
-use Rattle.btree.specs.declared.entries.Ordered.TheVariants as ordered
 use Rattle.btree.specs.declared.entries.Item.{Item}
 use Rattle.btree.specs.declared.entries.Item.TheVariants as item
-use Rattle.btree.specs.declared.entries.Entering.{Entering}
+use Rattle.byte_fields.specs.declared.Span.{Span}
 
 -- the bytes of a node's block
 abbrev pub bytes_of : List ℕ → Search → Node → List ℕ
 bytes_of b q m = block_of q.keys.reader b m.block
-
-abbrev pub order_told : Ordered → Answer Order
-order_told (ordered.Got o) = got o
-order_told (ordered.No e) = no e
 
 -- a key begins with a number of 64 bits, h: the id in the low 60, the kind in the high 4; the id is compared first (fs.rs, `records`)
 unfoldable pub order_of : ℕ → ℕ → ℕ → Order
@@ -43,7 +34,7 @@ order_of id kind h =
     (if_le (h % 2 ^ 60) id Below Above)
 
 unfoldable pub key_order : ℕ → ℕ → List ℕ → Answer Order
-key_order id kind key = number_at 8 key 0 >>= λ h. got (order_of id kind h)
+key_order id kind key = number_at 8 key 0 >>= λ h. Ok (order_of id kind h)
 
 -- how the i-th entry of a node in the block b stands to an id and a kind (btree.rs, `window`)
 unfoldable pub order_in : List ℕ → Node → Info → ℕ → ℕ → ℕ → Answer Order
@@ -64,15 +55,15 @@ pub data Leaf : Type 0 where
   record_at : Place → Leaf
 
 abbrev pub item_told : Item → Answer Leaf
-item_told item.Pass = got pass_over
-item_told item.Stop = got end_scan
-item_told (item.At p) = got (record_at p)
-item_told (item.No e) = no e
+item_told item.Pass = Ok pass_over
+item_told item.Stop = Ok end_scan
+item_told (item.At p) = Ok (record_at p)
+item_told (item.No e) = Err e
 
 -- document 01, btree.rs: "Value offset 0xffff means no value; `scan` skips it"
-abbrev pub valued : Value → Place → Leaf
-valued (value.At v) p = record_at p
-valued value.Missing p = pass_over
+abbrev pub valued : Option Span → Place → Leaf
+valued (Some v) p = record_at p
+valued None p = pass_over
 
 unfoldable pub record_of : Node → KeyValue → Leaf
 record_of m e = valued e.value (place_of m.block e)
@@ -82,7 +73,7 @@ unfoldable pub item_in : List ℕ → Node → Info → ℕ → ℕ → ℕ → 
 item_in b m info id kind i =
     key_value_at b m info i >>= λ e.
     key_order id kind (part_of b e.key) >>= λ o.
-    by_order o (got pass_over) (got (record_of m e)) (got end_scan)
+    by_order o (Ok pass_over) (Ok (record_of m e)) (Ok end_scan)
 
 abbrev pub item_at : List ℕ → Search → Node → ℕ → Answer Leaf
 item_at b q m i = item_in (bytes_of b q m) m q.keys.info q.keys.id q.keys.kind i
@@ -93,19 +84,19 @@ pub data Act : Type 0 where
   skip : Act
   into : Node → Act
 
-abbrev pub into_told : Parsed → Answer Act
-into_told (parsed.Got m) = got (into m)
-into_told (parsed.No e) = no e
+abbrev pub into_told : Answer Node → Answer Act
+into_told (Ok m) = Ok (into m)
+into_told (Err e) = Err e
 
-abbrev pub entering_told : Entering → Counted Act
-entering_told t = after t.nodes (into_told t.node)
+abbrev pub entering_told : Counted Node → Counted Act
+entering_told t = after t.nodes (into_told t.answer)
 
 -- the node of a child: its name may be looked up in an object map, and it is gone through once its block has passed as a node (btree.rs, `read_child`)
 unfoldable pub child_node : List ℕ → Search → ℕ → Through Act
 child_node b q child =
     and_then (resolve q.keys.reader b q.resolve child) λ p.
     on (node_at q.keys.reader b p) λ c.
-    by p (at_once (got (into c)))
+    by p (at_once (Ok (into c)))
 
 -- the child of the i-th entry
 unfoldable pub enter_at : List ℕ → Search → Node → ℕ → Through Act
@@ -115,8 +106,8 @@ enter_at b q m i = on (child_at (bytes_of b q m) m q.keys.info i) (child_node b 
 unfoldable pub follow_at : List ℕ → Search → Node → ℕ → Through Act
 follow_at b q m i =
     if_le m.nkeys (i + 1) (enter_at b q m i)
-    (on (order_at b q m (i + 1)) λ o. by_order o (at_once (got skip)) (enter_at b q m i) (enter_at b q m i))
+    (on (order_at b q m (i + 1)) λ o. by_order o (at_once (Ok skip)) (enter_at b q m i) (enter_at b q m i))
 
 -- the i-th entry of an index node; one above ends the scan
 unfoldable pub turn_at : List ℕ → Search → Node → ℕ → Through Act
-turn_at b q m i = on (order_at b q m i) λ o. by_order o (follow_at b q m i) (follow_at b q m i) (at_once (got stop))
+turn_at b q m i = on (order_at b q m i) λ o. by_order o (follow_at b q m i) (follow_at b q m i) (at_once (Ok stop))

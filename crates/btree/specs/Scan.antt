@@ -1,20 +1,18 @@
 -- The records of one id and kind in a tree, in order. Document 01, btree.rs, `scan`, and "What must change shape".
 use Rattle.std.specs.Prelude.{ℕ, zero, suc, ◌+◌, List, [], ◌∷◌}
-use Rattle.std.proofs.Math.Option.{Option, none, some}
-use Rattle.error.specs.Answer.{Answer, got, no, if_le, if_eq}
+use Rattle.std.specs.Prelude.{Option, None, Some}
+use Rattle.error.specs.Answer.{Answer, Ok, Err, if_le, if_eq}
 use Rattle.error.specs.declared.Refusal.{Refusal}
 use Rattle.error.specs.declared.Refusal.TheVariants.{Corrupt}
 use Rattle.arith.specs.Checked.{ticked}
 use Rattle.node.specs.Node.{leaf_bit}
 use Rattle.node.specs.declared.layout.Node.{Node}
-use Rattle.lookup.specs.Counted.{Counted, after}
+use Rattle.lookup.specs.declared.counted.Counted.{Counted}
+use Rattle.lookup.specs.Counted.{after}
 use Rattle.lookup.specs.Path.{Through}
 use Rattle.btree.specs.Entries.{Leaf, pass_over, end_scan, record_at, item_at, Act, stop, skip, into, turn_at}
 use Rattle.btree.specs.declared.entries.Search.{Search}
 use Rattle.node.specs.declared.place.Place.{Place}
-use Rattle.btree.specs.declared.entries.Found.{Found}
-use Rattle.btree.specs.declared.entries.Found.TheVariants as found
-use Rattle.btree.specs.declared.entries.Scanned.{Scanned}
 
 -- what a part of a tree gives: the blocks of the nodes that the scan goes through in it and the records, in order;
 -- then the scan goes on past the part, or has ended or been refused in it
@@ -41,10 +39,10 @@ along (p ∷ ps) x = through p (along ps x)
 
 -- an entry of a leaf
 unfoldable pub item_part : Answer Leaf → Part
-item_part (got pass_over) = passed
-item_part (got end_scan) = ended
-item_part (got (record_at p)) = gives p passed
-item_part (no e) = failed e
+item_part (Ok pass_over) = passed
+item_part (Ok end_scan) = ended
+item_part (Ok (record_at p)) = gives p passed
+item_part (Err e) = failed e
 
 -- n entries of a leaf from the i-th on (btree.rs, `scan_node`)
 unfoldable pub leaf_part : List ℕ → Search → Node → ℕ → ℕ → Part
@@ -53,10 +51,10 @@ leaf_part b q m (suc n) i = item_part (item_at b q m i) then leaf_part b q m n (
 
 -- an entry of an index node, with f of its child
 unfoldable pub act_part : (Node → Part) → Answer Act → Part
-act_part f (got stop) = ended
-act_part f (got skip) = passed
-act_part f (got (into m)) = f m
-act_part f (no e) = failed e
+act_part f (Ok stop) = ended
+act_part f (Ok skip) = passed
+act_part f (Ok (into m)) = f m
+act_part f (Err e) = failed e
 
 unfoldable pub turn_part : (Node → Part) → Through Act → Part
 turn_part f t = along t.path (act_part f t.answer)
@@ -104,12 +102,12 @@ scan_of b q s = counted_part (tree_part b q) end s
 
 -- a run's k-th record, or how the run ended before it (document 01, "What must change shape": "how many records to pass")
 unfoldable pub nth : ℕ → Run → Counted (Option Place)
-nth zero (more p s r) = after s (got (some p))
+nth zero (more p s r) = after s (Ok (Some p))
 nth (suc n) (more p s r) = nth n r
-nth zero (end s) = after s (got none)
-nth (suc n) (end s) = after s (got none)
-nth zero (refused e s) = after s (no e)
-nth (suc n) (refused e s) = after s (no e)
+nth zero (end s) = after s (Ok None)
+nth (suc n) (end s) = after s (Ok None)
+nth zero (refused e s) = after s (Err e)
+nth (suc n) (refused e s) = after s (Err e)
 
 -- the same run as a list: its records in order, the nodes gone through by each, and how it ended
 unfoldable pub places : Run → List Place
@@ -124,14 +122,5 @@ counts (refused e s) = []
 
 unfoldable pub ending : Run → Counted (Option Place)
 ending (more p s r) = ending r
-ending (end s) = after s (got none)
-ending (refused e s) = after s (no e)
-
--- what a call of `scan` says
-abbrev pub found_told : Found → Answer (Option Place)
-found_told (found.At p) = got (some p)
-found_told found.End = got none
-found_told (found.No e) = no e
-
-abbrev pub scanned_told : Scanned → Counted (Option Place)
-scanned_told r = after r.nodes (found_told r.found)
+ending (end s) = after s (Ok None)
+ending (refused e s) = after s (Err e)

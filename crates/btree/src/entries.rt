@@ -1,15 +1,15 @@
 // What a scan does at one entry of a node.
 ghost use Rattle.std.specs.Prelude.{◌≡◌, ◌<◌, ◌^◌, length};
-ghost use Rattle.error.specs.Answer.{got};
+ghost use Rattle.error.specs.Answer.{Ok};
 ghost use Rattle.node.specs.Place.{Small};
 ghost use Rattle.lookup.specs.Path.{counted};
-ghost use Rattle.btree.specs.Entries.{order_told, key_order, order_of, order_in, item_told, item_in, record_of, entering_told, child_node, enter_at};
+ghost use Rattle.btree.specs.Entries.{key_order, order_of, order_in, item_told, item_in, record_of, entering_told, child_node, enter_at};
 
 use arith::tick;
-use byte_fields::{Number, part, u64_at};
+use byte_fields::{part, u64_at};
 use error::Refusal;
-use lookup::{Resolve, read_node, resolve_child};
-use node::{Entered, Info, KeyValue, Node, Parsed, Place, Value, child_of, entry, place_of};
+use lookup::{Counted, Resolve, read_node, resolve_child};
+use node::{Info, KeyValue, Node, Place, child_of, entry, place_of};
 use obj::Reader;
 
 // What is looked for in a node: the keys of an id and a kind.
@@ -30,33 +30,12 @@ pub struct Search {
     pub resolve: Resolve,
 }
 
-// A record of a scan, or how the scan ended.
-#[derive(Clone, Copy)]
-pub enum Found {
-    At(Place),
-    End,
-    No(Refusal),
-}
-
-// What was found, and the nodes gone through.
-#[derive(Clone, Copy)]
-pub struct Scanned {
-    pub found: Found,
-    pub nodes: u64,
-}
-
 // How a key stands to what is searched.
 #[derive(Clone, Copy)]
 pub enum Order {
     Below,
     Inside,
     Above,
-}
-
-#[derive(Clone, Copy)]
-pub enum Ordered {
-    Got(Order),
-    No(Refusal),
 }
 
 // What an entry of a leaf gives.
@@ -66,13 +45,6 @@ pub enum Item {
     Stop,
     At(Place),
     No(Refusal),
-}
-
-// A child that was read, and the nodes gone through.
-#[derive(Clone, Copy)]
-pub struct Entering {
-    pub node: Parsed,
-    pub nodes: u64,
 }
 
 // How a key that begins with `head` stands to an id and a kind: the id is compared first.
@@ -97,34 +69,39 @@ fn order_of(wanted_id: u64, wanted_kind: u8, head: u64) -> Order
     Order::Above
 }
 
-fn key_order(id: u64, kind: u8, key: &[u8]) -> Ordered
-    ensures { order_told result ≡ key_order id kind key.now }
+#[tactic(auto, unfolding(crate::specs::Entries::key_order, error::specs::Answer::if_le, error::specs::Answer::if_eq))]
+fn key_order(id: u64, kind: u8, key: &[u8]) -> Result<Order, Refusal>
+    ensures { result ≡ key_order id kind key.now }
 {
-    match u64_at(key, 0) {
-        Number::Got(head) => Ordered::Got(order_of(id, kind, head)),
-        Number::No(e) => Ordered::No(e),
-    }
+    let head = u64_at(key, 0)?;
+    Ok(order_of(id, kind, head))
 }
 
 // How the i-th entry of a node in the block b stands to what is searched.
-pub fn order_in(b: &[u8], node: Node, info: Info, id: u64, kind: u8, i: u32) -> Ordered
-    ensures { order_told result ≡ order_in b.now node info id kind i }
+#[tactic(auto, unfolding(crate::specs::Entries::order_in, error::specs::Answer::if_le, error::specs::Answer::if_eq))]
+pub fn order_in(
+    b: &[u8],
+    node: Node,
+    info: Info,
+    id: u64,
+    kind: u8,
+    i: u32,
+) -> Result<Order, Refusal>
+    ensures { result ≡ order_in b.now node info id kind i }
 {
-    match entry(b, node, info, i) {
-        Entered::Got(e) => key_order(id, kind, part(b, e.key)),
-        Entered::No(e) => Ordered::No(e),
-    }
+    let e = entry(b, node, info, i)?;
+    key_order(id, kind, part(b, e.key))
 }
 
 // A record of a leaf, unless it has no value.
 fn record_of(node: Node, e: KeyValue) -> Item
     requires { Small e }
-    ensures { item_told result ≡ got (record_of node e) }
+    ensures { item_told result ≡ Ok (record_of node e) }
 {
     let value = e.value;
     match value {
-        Value::At(_) => Item::At(place_of(node.block, e)),
-        Value::Missing => Item::Pass,
+        Some(_) => Item::At(place_of(node.block, e)),
+        None => Item::Pass,
     }
 }
 
@@ -134,51 +111,51 @@ pub fn item_in(b: &[u8], node: Node, info: Info, id: u64, kind: u8, i: u32) -> I
     ensures { item_told result ≡ item_in b.now node info id kind i }
 {
     match entry(b, node, info, i) {
-        Entered::Got(e) => match key_order(id, kind, part(b, e.key)) {
-            Ordered::Got(o) => match o {
+        Ok(e) => match key_order(id, kind, part(b, e.key)) {
+            Ok(o) => match o {
                 Order::Below => Item::Pass,
                 Order::Inside => record_of(node, e),
                 Order::Above => Item::Stop,
             },
-            Ordered::No(e) => Item::No(e),
+            Err(e) => Item::No(e),
         },
-        Entered::No(e) => Item::No(e),
+        Err(e) => Item::No(e),
     }
 }
 
 // The node that a child's name leads to.
-fn read_child(image: &[u8], q: Search, child: u64, nodes: u64) -> Entering
+fn read_child(image: &[u8], q: Search, child: u64, nodes: u64) -> Counted<Node>
     ensures { entering_told result ≡ counted nodes (child_node image.now q child) }
 {
     let resolve = q.resolve;
     let resolved = resolve_child(q.keys.reader, image, resolve, child, nodes);
-    let paddr = resolved.paddr;
+    let paddr = resolved.answer;
     match paddr {
-        Number::Got(p) => match read_node(q.keys.reader, image, p) {
-            Parsed::Got(m) => Entering {
-                node: Parsed::Got(m),
+        Ok(p) => match read_node(q.keys.reader, image, p) {
+            Ok(m) => Counted {
+                answer: Ok(m),
                 nodes: tick(resolved.nodes),
             },
-            Parsed::No(e) => Entering {
-                node: Parsed::No(e),
+            Err(e) => Counted {
+                answer: Err(e),
                 nodes: resolved.nodes,
             },
         },
-        Number::No(e) => Entering {
-            node: Parsed::No(e),
+        Err(e) => Counted {
+            answer: Err(e),
             nodes: resolved.nodes,
         },
     }
 }
 
 // The child of the i-th entry of an index node.
-pub fn enter(image: &[u8], q: Search, node: Node, i: u32, nodes: u64) -> Entering
+pub fn enter(image: &[u8], q: Search, node: Node, i: u32, nodes: u64) -> Counted<Node>
     ensures { entering_told result ≡ counted nodes (enter_at image.now q node i) }
 {
     match child_of(q.keys.reader.block(image, node.block), node, q.keys.info, i) {
-        Number::Got(child) => read_child(image, q, child, nodes),
-        Number::No(e) => Entering {
-            node: Parsed::No(e),
+        Ok(child) => read_child(image, q, child, nodes),
+        Err(e) => Counted {
+            answer: Err(e),
             nodes: nodes,
         },
     }

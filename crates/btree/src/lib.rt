@@ -6,7 +6,7 @@ mod leaf;
 mod seek;
 mod skip;
 
-pub use entries::{Entering, Found, Item, Keys, Order, Ordered, Scanned, Search};
+pub use entries::{Item, Keys, Order, Search};
 pub use leaf::{InLeaf, in_leaf, next_in};
 pub use seek::{Seek, Turn, Turned, next_child, stays};
 pub use skip::{Pass, Passed, scan};

@@ -2,9 +2,10 @@
 ghost use Rattle.std.specs.Prelude.{◌≡◌, ◌+◌, ◌-◌, ◌<◌};
 ghost use Rattle.btree.specs.Inner.{follow_in, seek_in, seek_at, turn_of, Reaches, stays_at};
 
-use crate::entries::{Entering, Order, Ordered, Search, enter, order_in};
+use crate::entries::{Order, Search, enter, order_in};
 use error::Refusal;
-use node::{Info, Node, Parsed};
+use lookup::Counted;
+use node::{Info, Node};
 
 // The entry that is gone into, where all of them may be passed, or the scan ends.
 #[derive(Clone, Copy)]
@@ -42,14 +43,14 @@ fn past_below(b: &[u8], node: Node, info: Info, id: u64, kind: u8, from: u32) ->
             return Seek::At(at);
         }
         match order_in(b, node, info, id, kind, at + 1) {
-            Ordered::Got(o) => match o {
+            Ok(o) => match o {
                 Order::Below => {
                     at += 1;
                 }
                 Order::Inside => return Seek::At(at),
                 Order::Above => return Seek::At(at),
             },
-            Ordered::No(e) => return Seek::No(e),
+            Err(e) => return Seek::No(e),
         }
     }
 }
@@ -61,12 +62,12 @@ fn seek_in(b: &[u8], node: Node, info: Info, id: u64, kind: u8, from: u32) -> Se
         return Seek::Over;
     }
     match order_in(b, node, info, id, kind, from) {
-        Ordered::Got(o) => match o {
+        Ok(o) => match o {
             Order::Below => past_below(b, node, info, id, kind, from),
             Order::Inside => past_below(b, node, info, id, kind, from),
             Order::Above => Seek::Stop,
         },
-        Ordered::No(e) => Seek::No(e),
+        Err(e) => Seek::No(e),
     }
 }
 
@@ -94,21 +95,21 @@ fn turn_made(turn: Turn, next: u32, nodes: u64) -> Turned
     }
 }
 
-fn turn_of(node: Parsed) -> Turn
+fn turn_of(node: Result<Node, Refusal>) -> Turn
     ensures { result ≡ turn_of node }
 {
     match node {
-        Parsed::Got(m) => Turn::Into(m),
-        Parsed::No(e) => Turn::No(e),
+        Ok(m) => Turn::Into(m),
+        Err(e) => Turn::No(e),
     }
 }
 
 // The node goes on behind its i-th entry.
-fn into_child(node: Node, i: u32, e: Entering) -> Turned
+fn into_child(node: Node, i: u32, e: Counted<Node>) -> Turned
     requires { i < node.nkeys }
-    ensures { result ≡ record { turn = turn_of e.node; next = i + 1; nodes = e.nodes } }
+    ensures { result ≡ record { turn = turn_of e.answer; next = i + 1; nodes = e.nodes } }
 {
-    let child = e.node;
+    let child = e.answer;
     turn_made(turn_of(child), i + 1, e.nodes)
 }
 
@@ -139,11 +140,11 @@ pub fn stays(image: &[u8], q: Search, node: Node, i: u32) -> bool
         q.keys.kind,
         i,
     ) {
-        Ordered::Got(o) => match o {
+        Ok(o) => match o {
             Order::Below => false,
             Order::Inside => true,
             Order::Above => true,
         },
-        Ordered::No(_) => false,
+        Err(_) => false,
     }
 }

@@ -1,15 +1,16 @@
 // The record of a scan after a number of others: a recursion on the falling level that passes on how many remain to skip.
 ghost use Rattle.std.specs.Prelude.{◌≡◌, ℕ, ◌-◌, ◌<◌, ◌^◌, List, length};
 ghost use Rattle.btree.specs.Entries.{bytes_of};
-ghost use Rattle.btree.specs.Scan.{Run, Tail, scan_of, nth, scanned_told};
+ghost use Rattle.btree.specs.Scan.{Run, Tail, scan_of, nth};
 ghost use Rattle.btree.specs.declared.entries.Search.{Search};
 ghost use Rattle.btree.specs.Inner.{leaf_from, walk, child, met, pass_told, found_of};
 
-use crate::entries::{Found, Keys, Scanned, Search};
+use crate::entries::{Keys, Search};
 use crate::leaf::{InLeaf, in_leaf};
 use crate::seek::{Turn, next_child};
 use arith::tick;
 use error::Refusal;
+use lookup::Counted;
 use node::{Node, Place};
 
 // Left: the part is passed, with as many still to skip.
@@ -119,33 +120,33 @@ fn pass_child(image: &[u8], q: Search, level: u16, m: Node, skip: u64, nodes: u6
 }
 
 // At the root nothing follows.
-fn found_of(pass: Pass) -> Found
+fn found_of(pass: Pass) -> Result<Option<Place>, Refusal>
     ensures { result ≡ found_of pass }
 {
     match pass {
-        Pass::At(p) => Found::At(p),
-        Pass::Left(_) => Found::End,
-        Pass::End => Found::End,
-        Pass::No(e) => Found::No(e),
+        Pass::At(p) => Ok(Some(p)),
+        Pass::Left(_) => Ok(None),
+        Pass::End => Ok(None),
+        Pass::No(e) => Err(e),
     }
 }
 
 // The record that stands after `skip` others.
-pub fn scan(image: &[u8], q: Search, skip: u64, nodes: u64) -> Scanned
-    ensures { scanned_told result ≡ nth skip (scan_of image.now q nodes) }
+pub fn scan(image: &[u8], q: Search, skip: u64, nodes: u64) -> Counted<Option<Place>>
+    ensures { result ≡ nth skip (scan_of image.now q nodes) }
 {
     let root = q.root;
     if 32 < root.level {
-        return Scanned {
-            found: Found::No(Refusal::Corrupt),
+        return Counted {
+            answer: Err(Refusal::Corrupt),
             nodes: nodes,
         };
     }
     let counted = tick(nodes);
     let s = pass_node(image, q, root.level, root, skip, counted);
     let pass = s.pass;
-    Scanned {
-        found: found_of(pass),
+    Counted {
+        answer: found_of(pass),
         nodes: s.nodes,
     }
 }

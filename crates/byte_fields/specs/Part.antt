@@ -1,18 +1,12 @@
 -- Parts of a list of bytes, by where they lie. Document 01, bytes.rs.
 use Rattle.std.specs.Prelude.{ℕ, ◌+◌, List, [], ◌∷◌, take, drop}
-use Rattle.error.specs.Answer.{Answer, got, no, if_le, if_eq}
+use Rattle.error.specs.Answer.{Answer, Ok, Err, if_le, if_eq}
 use Rattle.error.specs.declared.Refusal.{Refusal}
 use Rattle.byte_fields.specs.declared.Span.{Span}
-use Rattle.byte_fields.specs.declared.Sliced.{Sliced}
-use Rattle.byte_fields.specs.declared.Sliced.TheVariants.{Got, No}
-
-abbrev pub sliced : Sliced → Answer Span
-sliced (Got s) = got s
-sliced (No e) = no e
 
 -- the len bytes at off of size bytes, or the refusal e where they are not all there
 unfoldable pub span_at : Refusal → ℕ → ℕ → ℕ → Answer Span
-span_at e size off len = if_le (off + len) size (got (record { start = off; len = len })) (no e)
+span_at e size off len = if_le (off + len) size (Ok (record { start = off; len = len })) (Err e)
 
 -- the bytes of a span, or as many of them as there are
 unfoldable pub part_of : List ℕ → Span → List ℕ

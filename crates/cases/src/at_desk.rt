@@ -1,6 +1,6 @@
 // A call at a desk. The input is the desk, the call's number, the choice of the checkpoint and its number, the third number, what
 // each count was and what the eight come to; then the path or the bookmark.
-use crate::record::{Record, value};
+use crate::record::Record;
 use desks::{DeskCounts, call, more_by};
 
 const NUMBERS: usize = 112;
@@ -9,7 +9,7 @@ const NUMBERS: usize = 112;
 const OTHER_COUNTS: i64 = -1000;
 
 fn number(input: &[u8], at: usize) -> u64 {
-    value(byte_fields::u64_at(input, at))
+    byte_fields::u64_at(input, at).unwrap_or(0)
 }
 
 fn path_in(input: &[u8]) -> &[u8] {

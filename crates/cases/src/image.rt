@@ -1,8 +1,7 @@
 // An image is kept as the parts of it that are not zeros, or not as in the image before: each is how many bytes stand before
 // it and how many it has (4 bytes each), then its bytes.
-use crate::record::value;
 use byte_fields::{Span, part};
-use text::{Position, clear, put_all};
+use text::{clear, put_all};
 
 // Where the part at `from` of the parts ends, and where the image goes on behind it.
 #[derive(Clone, Copy)]
@@ -19,15 +18,15 @@ fn sum(a: usize, b: usize) -> usize {
 }
 
 fn lay(parts: &[u8], image: &mut [u8], from: usize, to: usize) -> Laid {
-    let before = value(byte_fields::u32_at(parts, from)) as usize;
-    let len = value(byte_fields::u32_at(parts, sum(from, 4))) as usize;
+    let before = byte_fields::u32_at(parts, from).unwrap_or(0) as usize;
+    let len = byte_fields::u32_at(parts, sum(from, 4)).unwrap_or(0) as usize;
     let start = sum(from, 8);
     let at = sum(to, before);
     let room = image.len();
-    put_all(
+    let _ = put_all(
         image,
         room,
-        Position::At(at),
+        Ok(at),
         part(
             parts,
             Span {

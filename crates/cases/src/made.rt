@@ -1,6 +1,6 @@
 // A recorded call, made.
 use crate::at_desk::made_at_desk;
-use crate::record::{Record, value};
+use crate::record::Record;
 use apfs::{
     apfs_checkpoints, apfs_entry, apfs_extent, apfs_link, apfs_list, apfs_list_at, apfs_lookup,
     apfs_lookup_at, apfs_mark, apfs_mark_at, apfs_marked, apfs_marked_at, apfs_measure,
@@ -22,12 +22,12 @@ fn written_on(out: &mut [u8]) {
 // A bookmark handed out or in: the input is the record's kind and a transaction number, or the bookmark.
 fn made_marked(r: Record, image: &[u8], input: &[u8], out: &mut [u8]) -> i64 {
     let op = r.op;
-    let kind = (value(byte_fields::u64_at(input, 0)) % 256) as u8;
+    let kind = (byte_fields::u64_at(input, 0).unwrap_or(0) % 256) as u8;
     match op {
         20 => apfs_mark(image, r.volume, r.a, kind, r.b, out),
         21 => apfs_mark_at(
             image,
-            value(byte_fields::u64_at(input, 8)),
+            byte_fields::u64_at(input, 8).unwrap_or(0),
             r.volume,
             r.a,
             kind,
@@ -54,7 +54,7 @@ fn made_at(r: Record, image: &[u8], input: &[u8], out: &mut [u8]) -> i64 {
         19 => apfs_measure_at(image, r.a, r.volume, out),
         16 => apfs_read_at(
             image,
-            value(byte_fields::u64_at(input, 0)),
+            byte_fields::u64_at(input, 0).unwrap_or(0),
             r.volume,
             r.a,
             r.b,
@@ -78,7 +78,7 @@ fn made(r: Record, image: &[u8], input: &[u8], out: &mut [u8]) -> i64 {
         11 => apfs_replaced(
             image,
             r.volume,
-            value(byte_fields::u64_at(input, 0)),
+            byte_fields::u64_at(input, 0).unwrap_or(0),
             r.a,
             r.b,
             out,

@@ -1,7 +1,6 @@
 // A record of the file: op and expected refusal (1 byte each), volume, a, b (8 each), the buffer's length, the expected count,
 // the expected sum of the buffer after the call, the input's length (4 each); then its input. Numbers are little-endian. Op 0
 // ends the file.
-use byte_fields::Number;
 
 const HEAD: usize = 42;
 
@@ -19,24 +18,17 @@ pub struct Record {
     pub len: usize,
 }
 
-pub fn value(n: Number) -> u64 {
-    match n {
-        Number::Got(x) => x,
-        Number::No(_) => 0,
-    }
-}
-
 fn record_of(head: &[u8; HEAD]) -> Record {
     Record {
         op: head[0],
         refusal: head[1],
-        volume: value(byte_fields::u64_at(head, 2)),
-        a: value(byte_fields::u64_at(head, 10)),
-        b: value(byte_fields::u64_at(head, 18)),
-        room: value(byte_fields::u32_at(head, 26)) as usize,
-        count: value(byte_fields::u32_at(head, 30)),
-        sum: value(byte_fields::u32_at(head, 34)),
-        len: value(byte_fields::u32_at(head, 38)) as usize,
+        volume: byte_fields::u64_at(head, 2).unwrap_or(0),
+        a: byte_fields::u64_at(head, 10).unwrap_or(0),
+        b: byte_fields::u64_at(head, 18).unwrap_or(0),
+        room: byte_fields::u32_at(head, 26).unwrap_or(0) as usize,
+        count: byte_fields::u32_at(head, 30).unwrap_or(0) as u64,
+        sum: byte_fields::u32_at(head, 34).unwrap_or(0) as u64,
+        len: byte_fields::u32_at(head, 38).unwrap_or(0) as usize,
     }
 }
 

@@ -2,7 +2,7 @@
 use Prim.Native.Nat.{ℕ, zero, suc, ◌+◌, ◌≤◌, ◌<◌}
 use mathlib.Core.Path.{◌≡◌, refl, sym, ◌∙◌}
 use mathlib.Core.List.{List}
-use mathlib.Core.Option.{Option, none, some}
+use Rattle.std.specs.Prelude.{Option, None, Some}
 use native.Mathlib.Decide.{ℕ_discrete}
 use native.Mathlib.Omega.{arith}
 use Rattle.error.proofs.Laws.{le_cases}
@@ -13,7 +13,7 @@ use Rattle.checkpoints.proofs.Asked.{nothing, same_some}
 
 module _ (r : Reader) (image : List ℕ) (start ring : ℕ) where
   abbrev pub Accepted : ℕ → Superblock → Type 0
-  Accepted i sb = accepted_at r image ring (block_place r start i) ≡ some sb
+  Accepted i sb = accepted_at r image ring (block_place r start i) ≡ Some sb
 
   -- sb is that of the earliest block of the greatest transaction number among the accepted ones of n blocks from the k-th on
   pub record LatestOf (n k : ℕ) (sb : Superblock) : Type 0 where
@@ -25,13 +25,13 @@ module _ (r : Reader) (image : List ℕ) (start ring : ℕ) where
     pub earliest : (j : ℕ) (o : Superblock) → k ≤ j → j < k + n → Accepted j o → o.xid ≡ sb.xid → own ≤ j
 
   -- none of n blocks from the k-th on is accepted
-  abbrev pub None : ℕ → ℕ → Type 0
-  None n k = (j : ℕ) (o : Superblock) → k ≤ j → j < k + n → Accepted j o → ⊥
+  abbrev pub NoneOf : ℕ → ℕ → Type 0
+  NoneOf n k = (j : ℕ) (o : Superblock) → k ≤ j → j < k + n → Accepted j o → ⊥
 
   -- what latestIn's answer says
   Says : ℕ → ℕ → Option Superblock → Type 0
-  Says n k (some sb) = LatestOf n k sb
-  Says n k none = None n k
+  Says n k (Some sb) = LatestOf n k sb
+  Says n k None = NoneOf n k
 
   -- the block first, and what was taken of those after it
   module _ (n k : ℕ) where
@@ -67,23 +67,23 @@ module _ (r : Reader) (image : List ℕ) (start ring : ℕ) where
 
     says_first : (a b : Option Superblock) → accepted_at r image ring (block_place r start k) ≡ a → Says n (k + 1) b → Says (suc n) k (prefer a b)
     unfolding Says
-    says_first (some own) (some other) p l =
+    says_first (Some own) (Some other) p l =
         le_cases (Says (suc n) k)
         (λ h. own_first own p (λ j o u v x. omega (arith, l.greatest j o u v x)))
         (λ h. later other l (λ o x. rw (same_some (sym x ∙ p)) h))
-    says_first (some own) none p l = own_first own p (λ j o u v x. absurd (l j o u v x))
-    says_first none (some other) p l = later other l (λ o x. nothing (sym p ∙ x))
-    says_first none none p l = λ j o h t x. split j o h t x (λ y q. nothing (sym p ∙ y)) (λ u v. l j o u v x)
+    says_first (Some own) None p l = own_first own p (λ j o u v x. absurd (l j o u v x))
+    says_first None (Some other) p l = later other l (λ o x. nothing (sym p ∙ x))
+    says_first None None p l = λ j o h t x. split j o h t x (λ y q. nothing (sym p ∙ y)) (λ u v. l j o u v x)
 
   says : (n k : ℕ) → Says n k (latest_in r image start ring n k)
   unfolding latest_in Says
   says zero k = λ j o h t x. omega arith
   says (suc n) k = says_first n k (accepted_at r image ring (block_place r start k)) (latest_in r image start ring n (k + 1)) refl (says n (k + 1))
 
-  pub latest_of : (n k : ℕ) (sb : Superblock) → latest_in r image start ring n k ≡ some sb → LatestOf n k sb
+  pub latest_of : (n k : ℕ) (sb : Superblock) → latest_in r image start ring n k ≡ Some sb → LatestOf n k sb
   unfolding Says
   latest_of n k sb e = rw e at (says n k)
 
-  pub none_of : (n k : ℕ) → latest_in r image start ring n k ≡ none → None n k
+  pub none_of : (n k : ℕ) → latest_in r image start ring n k ≡ None → NoneOf n k
   unfolding Says
   none_of n k p = rw p at (says n k)

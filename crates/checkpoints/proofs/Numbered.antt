@@ -2,7 +2,7 @@
 use Prim.Native.Nat.{ℕ, zero, suc, ◌+◌, ◌≤◌, ◌<◌}
 use mathlib.Core.Path.{◌≡◌, refl, sym, ap, ◌∙◌}
 use mathlib.Core.List.{List}
-use mathlib.Core.Option.{Option, none, some}
+use Rattle.std.specs.Prelude.{Option, None, Some}
 use native.Mathlib.Omega.{arith}
 use Rattle.error.proofs.Laws.{eq_cases}
 use Rattle.obj.specs.declared.reader.Reader.{Reader}
@@ -27,14 +27,14 @@ module _ (r : Reader) (image : List ℕ) (start ring x : ℕ) where
   NoneOf n k = (j : ℕ) (o : Superblock) → k ≤ j → j < k + n → Accepted r image start ring j o → o.xid ≡ x → ⊥
 
   Says : ℕ → ℕ → Option Superblock → Type 0
-  Says n k (some sb) = NumberedOf n k sb
-  Says n k none = NoneOf n k
+  Says n k (Some sb) = NumberedOf n k sb
+  Says n k None = NoneOf n k
 
   module _ (n k : ℕ) where
     -- the first block is none of the number's
     later : (b : Option Superblock) → ((o : Superblock) → Accepted r image start ring k o → o.xid ≡ x → ⊥) → Says n (k + 1) b → Says (suc n) k b
     unfolding Says
-    later (some sb) f l = record {
+    later (Some sb) f l = record {
       own = l.own;
       from = omega (arith, l.from);
       before = omega (arith, l.before);
@@ -42,25 +42,25 @@ module _ (r : Reader) (image : List ℕ) (start ring x : ℕ) where
       number = l.number;
       earliest = λ j o h t a e. split r image start ring n k j o h t a (λ y q. absurd (f o y e)) (λ u v. l.earliest j o u v a e);
     }
-    later none f l = λ j o h t a e. split r image start ring n k j o h t a (λ y q. f o y e) (λ u v. l j o u v a e)
+    later None f l = λ j o h t a e. split r image start ring n k j o h t a (λ y q. f o y e) (λ u v. l j o u v a e)
 
     says_first : (a b : Option Superblock) → accepted_at r image ring (block_place r start k) ≡ a → Says n (k + 1) b → Says (suc n) k (earlier (of_number x a) b)
     unfolding Says
-    says_first (some own) b p l =
+    says_first (Some own) b p l =
         eq_cases (λ (o : Option Superblock). Says (suc n) k (earlier o b))
         (λ h. record { own = k; from = omega arith; before = omega arith; accepted = p; number = h; earliest = λ j o u v a e. u })
         (λ h. later b (λ o a e. h (ap (λ (s : Superblock). s.xid) (same_some (sym p ∙ a)) ∙ e)) l)
-    says_first none b p l = later b (λ o a e. nothing (sym p ∙ a)) l
+    says_first None b p l = later b (λ o a e. nothing (sym p ∙ a)) l
 
   says : (n k : ℕ) → Says n k (numbered_in r image start ring x n k)
   unfolding numbered_in Says
   says zero k = λ j o h t a e. omega arith
   says (suc n) k = says_first n k (accepted_at r image ring (block_place r start k)) (numbered_in r image start ring x n (k + 1)) refl (says n (k + 1))
 
-  pub numbered_of_lem : (n k : ℕ) (sb : Superblock) → numbered_in r image start ring x n k ≡ some sb → NumberedOf n k sb
+  pub numbered_of_lem : (n k : ℕ) (sb : Superblock) → numbered_in r image start ring x n k ≡ Some sb → NumberedOf n k sb
   unfolding Says
   numbered_of_lem n k sb e = rw e at (says n k)
 
-  pub unnumbered_of : (n k : ℕ) → numbered_in r image start ring x n k ≡ none → NoneOf n k
+  pub unnumbered_of : (n k : ℕ) → numbered_in r image start ring x n k ≡ None → NoneOf n k
   unfolding Says
   unnumbered_of n k e = rw e at (says n k)

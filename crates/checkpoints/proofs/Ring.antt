@@ -4,16 +4,15 @@ use mathlib.Core.Path.{◌≡◌, refl, sym, ◌∙◌}
 use mathlib.Core.Bool.{Bool, true, false}
 use mathlib.Core.Logic.{◌⊎◌, inl, inr, ⊎_elim}
 use mathlib.Core.List.{List}
-use mathlib.Core.Option.{Option, none, some}
+use Rattle.std.specs.Prelude.{Option, None, Some}
 use native.Mathlib.Nat.{add-mod-mod, mod-lt, add-zero, suc-add, sub-zero, zero-add}
 use native.Mathlib.Decide.{dec_le}
 use native.Mathlib.Omega.{arith}
 use borrow.Author.Rules.{rules}
 use Rattle.error.proofs.Laws.{same, other}
 use Rattle.obj.specs.declared.reader.Reader.{Reader}
-use Rattle.checkpoints.specs.Maps.{map_told, checkpoint_map_at, goes_on, maps_from, maps_fit}
+use Rattle.checkpoints.specs.Maps.{checkpoint_map_at, goes_on, maps_from, maps_fit}
 use Rattle.checkpoints.specs.declared.superblock.Descriptors.{Descriptors}
-use Rattle.checkpoints.specs.declared.maps.MapTest.{MapTest}
 
 module _ (r : Reader) (image : List ℕ) (d : Descriptors) (xid ring : ℕ) where
   maps : ℕ → ℕ → Bool
@@ -26,9 +25,9 @@ module _ (r : Reader) (image : List ℕ) (d : Descriptors) (xid ring : ℕ) wher
 
   -- n maps from the k-th on, each with others after it
   More : ℕ → ℕ → Type 0
-  More n k = (i : ℕ) → i < n → checkpoint_map_at r image d xid ring (k + i) ≡ some false
+  More n k = (i : ℕ) → i < n → checkpoint_map_at r image d xid ring (k + i) ≡ Some false
 
-  first_too : (n k : ℕ) → checkpoint_map_at r image d xid ring k ≡ some false → More n (k + 1) → More (suc n) k
+  first_too : (n k : ℕ) → checkpoint_map_at r image d xid ring k ≡ Some false → More n (k + 1) → More (suc n) k
   unfolding More
   first_too n k e h zero t = rw (add-zero) e
   first_too n k e h (suc i) t = let q : k + suc i ≡ k + 1 + i = omega arith in rw q (h i (omega arith))
@@ -37,12 +36,12 @@ module _ (r : Reader) (image : List ℕ) (d : Descriptors) (xid ring : ℕ) wher
   unfolding maps maps_from
   one n k = refl
 
-  after : (a : Option Bool) (x y : Bool) → (a ≡ some false → x ≡ y) → goes_on a x ≡ goes_on a y
-  after (some true) x y h = refl
-  after (some false) x y h = h refl
-  after none x y h = refl
+  after : (a : Option Bool) (x y : Bool) → (a ≡ Some false → x ≡ y) → goes_on a x ≡ goes_on a y
+  after (Some true) x y h = refl
+  after (Some false) x y h = h refl
+  after None x y h = refl
 
-  longer : (n j k : ℕ) → (checkpoint_map_at r image d xid ring k ≡ some false → maps (n + j) (k + 1) ≡ maps n (k + 1)) → maps (suc n + j) k ≡ maps (suc n) k
+  longer : (n j k : ℕ) → (checkpoint_map_at r image d xid ring k ≡ Some false → maps (n + j) (k + 1) ≡ maps n (k + 1)) → maps (suc n + j) k ≡ maps (suc n) k
   longer n j k h = rw suc-add (one (n + j) k ∙ (after (checkpoint_map_at r image d xid ring k) _ _ h ∙ sym (one n k)))
 
   -- either all of n maps have others after them, or what comes after them does not count
@@ -54,12 +53,12 @@ module _ (r : Reader) (image : List ℕ) (d : Descriptors) (xid ring : ℕ) wher
       of : (a : Option Bool) → checkpoint_map_at r image d xid ring k ≡ a →
           (More n (k + 1) ⊎ ((j : ℕ) → maps (n + j) (k + 1) ≡ maps n (k + 1))) →
           More (suc n) k ⊎ ((j : ℕ) → maps (suc n + j) k ≡ maps (suc n) k)
-      of (some true) e h = inr (λ j. longer n j k (λ q. absurd (let z : ◌≡◌ {A = ℕ} 0 1 = cc in omega arith)))
-      of (some false) e h = ⊎_elim (λ m. inl (first_too n k e m)) (λ f. inr (λ j. longer n j k (λ q. f j))) h
-      of none e h = inr (λ j. longer n j k (λ q. absurd (let z : ◌≡◌ {A = ℕ} 0 1 = cc in omega arith)))
+      of (Some true) e h = inr (λ j. longer n j k (λ q. absurd (let z : ◌≡◌ {A = ℕ} 0 1 = cc in omega arith)))
+      of (Some false) e h = ⊎_elim (λ m. inl (first_too n k e m)) (λ f. inr (λ j. longer n j k (λ q. f j))) h
+      of None e h = inr (λ j. longer n j k (λ q. absurd (let z : ◌≡◌ {A = ℕ} 0 1 = cc in omega arith)))
 
   -- where every map has others after it, any number of them is accepted
-  endless : ((k : ℕ) → checkpoint_map_at r image d xid ring k ≡ some false) → (n k : ℕ) → maps n k ≡ true
+  endless : ((k : ℕ) → checkpoint_map_at r image d xid ring k ≡ Some false) → (n k : ℕ) → maps n k ≡ true
   unfolding maps maps_from
   endless f zero k = refl
   endless f (suc n) k = rw (f k) (endless f n (k + 1))
@@ -70,7 +69,7 @@ module _ (r : Reader) (image : List ℕ) (d : Descriptors) (xid ring : ℕ) wher
     round n h =
         ⊎_elim
         (λ m.
-        let f : (k : ℕ) → checkpoint_map_at r image d xid ring k ≡ some false = λ k. rw (around k, ← zero-add (k % ring)) (m (k % ring) (mod-lt k positive)) in
+        let f : (k : ℕ) → checkpoint_map_at r image d xid ring k ≡ Some false = λ k. rw (around k, ← zero-add (k % ring)) (m (k % ring) (mod-lt k positive)) in
         endless f n 0 ∙ sym (endless f ring 0))
         (λ g. let q : n ≡ ring + (n - ring) = omega arith in rw q (g (n - ring)))
         (decided ring 0)
@@ -97,18 +96,18 @@ module _ (r : Reader) (image : List ℕ) (d : Descriptors) (xid ring : ℕ) wher
     unfolding maps_from
     maps_done h = let q : n - k ≡ 0 = omega arith in rw q at p
 
-    module _ (h : k < n) (x : MapTest) (e : map_told x ≡ checkpoint_map_at r image d xid ring k) where
-      turn : goes_on (map_told x) (maps_from r image d xid ring (n - (k + 1)) (k + 1)) ≡ whole
+    module _ (h : k < n) (x : Option Bool) (e : x ≡ checkpoint_map_at r image d xid ring k) where
+      turn : goes_on x (maps_from r image d xid ring (n - (k + 1)) (k + 1)) ≡ whole
       unfolding maps_from
       turn = let q : n - k ≡ suc (n - (k + 1)) = omega arith in rw e (rw q at p)
 
-      pub maps_last : x ≡ MapTest.Last → true ≡ whole
-      maps_last q = rw q at turn
+      pub maps_last : (l : Bool) → x ≡ Some l → l ≡ true → true ≡ whole
+      maps_last l q b = rw (q, b) at turn
 
-      pub maps_more : x ≡ MapTest.More → maps_from r image d xid ring (n - (k + 1)) (k + 1) ≡ whole
-      maps_more q = rw q at turn
+      pub maps_more : (l : Bool) → x ≡ Some l → l ≡ false → maps_from r image d xid ring (n - (k + 1)) (k + 1) ≡ whole
+      maps_more l q b = rw (q, b) at turn
 
-      pub maps_no : x ≡ MapTest.No → false ≡ whole
+      pub maps_no : x ≡ None → false ≡ whole
       maps_no q = rw q at turn
 
 pub maps_start : (r : Reader) (image : List ℕ) (d : Descriptors) (xid ring n : ℕ) → (ring ≡ 0 → ⊥) → n ≡ min (d.len - 1) ring → maps_from r image d xid ring (n - 0) 0 ≡ maps_fit r image d xid ring

@@ -1,6 +1,6 @@
 -- The maps of a checkpoint, as they are gone through. What this comes to is said in nx, specs/LatestCheckpoint.antt. Document 01, "Opening, in order"; Apple File System Reference, "Container", checkpoint_map_phys_t.
 use Rattle.std.specs.Prelude.{ℕ, zero, suc, ◌+◌, ◌-◌, ◌*◌, ◌%◌, Bool, true, false, List, length}
-use Rattle.std.proofs.Math.Option.{Option, none, some}
+use Rattle.std.specs.Prelude.{Option, None, Some}
 use Rattle.error.specs.Answer.{if_le, if_eq}
 use Rattle.byte_fields.specs.Number.{number_at}
 use Rattle.byte_fields.specs.Part.{part_of}
@@ -10,18 +10,10 @@ use Rattle.obj.specs.Header.{header_at, kind_of}
 use Rattle.obj.specs.declared.reader.Reader.{Reader}
 use Rattle.checkpoints.specs.Known.{known, ◌>>?◌}
 use Rattle.checkpoints.specs.declared.superblock.Descriptors.{Descriptors}
-use Rattle.checkpoints.specs.declared.maps.MapTest.{MapTest}
-use Rattle.checkpoints.specs.declared.maps.MapTest.TheVariants.{Last, More, No}
 
--- whether a checkpoint map is the last one; none where there is no map
-abbrev pub map_told : MapTest → Option Bool
-map_told Last = some true
-map_told More = some false
-map_told No = none
-
--- "holds its counted 40-byte entries"; flag 0x1 is CHECKPOINT_MAP_LAST
+-- whether a checkpoint map is the last one; none where there is no map: "holds its counted 40-byte entries"; flag 0x1 is CHECKPOINT_MAP_LAST
 unfoldable pub entries_held : ℕ → ℕ → ℕ → Option Bool
-entries_held size flags count = if_le (40 + 40 * count) size (if_eq (flags % 2) 1 (some true) (some false)) none
+entries_held size flags count = if_le (40 + 40 * count) size (if_eq (flags % 2) 1 (Some true) (Some false)) None
 
 -- cpm_flags, cpm_count
 unfoldable pub entries_in : List ℕ → Option Bool
@@ -29,7 +21,7 @@ entries_in b = known (number_at 4 b 32) >>? λ flags. known (number_at 4 b 36) >
 
 -- "of kind 0x0c, of the same xid"
 unfoldable pub checkpoint_map_in : List ℕ → ℕ → Option Bool
-checkpoint_map_in b xid = known (header_at b) >>? λ h. if_eq (kind_of h) 0x0c (if_eq h.xid xid (entries_in b) none) none
+checkpoint_map_in b xid = known (header_at b) >>? λ h. if_eq (kind_of h) 0x0c (if_eq h.xid xid (entries_in b) None) None
 
 -- the k-th of the "ring blocks", intact; "A map whose address overflows is not accepted"
 unfoldable pub checkpoint_map_at : Reader → List ℕ → Descriptors → ℕ → ℕ → ℕ → Option Bool
@@ -39,9 +31,9 @@ checkpoint_map_at r image d xid ring k =
     checkpoint_map_in (part_of image s) xid
 
 abbrev pub goes_on : Option Bool → Bool → Bool
-goes_on (some true) rest = true
-goes_on (some false) rest = rest
-goes_on none rest = false
+goes_on (Some true) rest = true
+goes_on (Some false) rest = rest
+goes_on None rest = false
 
 -- n maps from the k-th on, "up to one with flag 0x1"
 unfoldable pub maps_from : Reader → List ℕ → Descriptors → ℕ → ℕ → ℕ → ℕ → Bool

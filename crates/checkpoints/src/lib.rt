@@ -10,5 +10,4 @@ mod superblock;
 pub use accepted::accepted_block;
 pub use by_number::{Choice, checkpoint_by};
 pub use checkpoint::checkpoint_of;
-pub use maps::MapTest;
-pub use superblock::{Descriptors, Found, Superblock, Superblocked};
+pub use superblock::{Descriptors, Superblock};

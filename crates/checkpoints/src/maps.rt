@@ -1,74 +1,55 @@
 // The checkpoint maps of a candidate.
 ghost use Rattle.std.specs.Prelude.{◌≡◌, ◌-◌, ◌<◌, min};
-ghost use Rattle.checkpoints.specs.Maps.{map_told, entries_held, entries_in, checkpoint_map_in, checkpoint_map_at, maps_fit};
+ghost use Rattle.checkpoints.specs.Maps.{entries_held, entries_in, checkpoint_map_in, checkpoint_map_at, maps_fit};
 
 use crate::superblock::Descriptors;
 use arith::sum;
-use byte_fields::{Number, Sliced, part, u32_at};
-use obj::{Parsed, Reader};
-
-// What a checkpoint map's block is: the last one, one before others, or none.
-#[derive(Clone, Copy)]
-pub enum MapTest {
-    Last,
-    More,
-    No,
-}
+use byte_fields::{part, u32_at};
+use obj::Reader;
 
 // A map of `count` entries, 40 bytes each, in a block of `size` bytes.
-fn map_of(size: usize, flags: u32, count: u32) -> MapTest
-    ensures { map_told result ≡ entries_held size flags count }
+#[tactic(auto, unfolding(crate::specs::Maps::entries_held, error::specs::Answer::if_le, error::specs::Answer::if_eq))]
+fn map_of(size: usize, flags: u32, count: u32) -> Option<bool>
+    ensures { result ≡ entries_held size flags count }
 {
     if size < 40 + 40 * count as usize {
-        return MapTest::No;
+        return None;
     }
-    if flags % 2 == 1 {
-        return MapTest::Last;
-    }
-    MapTest::More
+    Some(flags % 2 == 1)
 }
 
-fn map_counted(b: &[u8]) -> MapTest
-    ensures { map_told result ≡ entries_in b.now }
+#[tactic(auto, unfolding(crate::specs::Maps::entries_in, error::specs::Answer::if_le, error::specs::Answer::if_eq))]
+fn map_counted(b: &[u8]) -> Option<bool>
+    ensures { result ≡ entries_in b.now }
 {
-    match u32_at(b, 32) {
-        Number::Got(flags) => match u32_at(b, 36) {
-            Number::Got(count) => map_of(b.len(), flags as u32, count as u32),
-            Number::No(_) => MapTest::No,
-        },
-        Number::No(_) => MapTest::No,
-    }
+    let flags = u32_at(b, 32).ok()?;
+    let count = u32_at(b, 36).ok()?;
+    map_of(b.len(), flags, count)
 }
 
-fn map_in(b: &[u8], xid: u64) -> MapTest
-    ensures { map_told result ≡ checkpoint_map_in b.now xid }
+#[tactic(auto, unfolding(crate::specs::Maps::checkpoint_map_in, error::specs::Answer::if_le, error::specs::Answer::if_eq))]
+fn map_in(b: &[u8], xid: u64) -> Option<bool>
+    ensures { result ≡ checkpoint_map_in b.now xid }
 {
-    match obj::parse(b) {
-        Parsed::Got(h) => {
-            if h.obj_type % 65536 != 12 {
-                return MapTest::No;
-            }
-            if h.xid != xid {
-                return MapTest::No;
-            }
-            map_counted(b)
-        }
-        Parsed::No(_) => MapTest::No,
+    let h = obj::parse(b).ok()?;
+    if h.kind() != 12 {
+        return None;
     }
+    if h.xid != xid {
+        return None;
+    }
+    map_counted(b)
 }
 
 // The k-th map of a candidate, on a ring of blocks.
-fn map_at(reader: Reader, image: &[u8], d: Descriptors, xid: u64, ring: u32, k: u32) -> MapTest
+#[tactic(auto, unfolding(crate::specs::Maps::checkpoint_map_at, error::specs::Answer::if_le, error::specs::Answer::if_eq))]
+fn map_at(reader: Reader, image: &[u8], d: Descriptors, xid: u64, ring: u32, k: u32) -> Option<bool>
     requires { 0 < ring }
-    ensures { map_told result ≡ checkpoint_map_at reader image.now d xid ring k }
+    ensures { result ≡ checkpoint_map_at reader image.now d xid ring k }
 {
-    match sum(d.base, (d.index as u64 + k as u64) % (ring as u64)) {
-        Number::Got(paddr) => match reader.read_object(image, paddr) {
-            Sliced::Got(s) => map_in(part(image, s), xid),
-            Sliced::No(_) => MapTest::No,
-        },
-        Number::No(_) => MapTest::No,
-    }
+    let paddr = sum(d.base, (d.index as u64 + k as u64) % (ring as u64)).ok()?;
+    let s = reader.read_object(image, paddr).ok()?;
+    map_in(part(image, s), xid)
 }
 
 // How many maps are tested: all, but none twice.
@@ -85,6 +66,7 @@ fn tested(len: u32, ring: u32) -> u32
 }
 
 // Whether a candidate's maps are all there.
+#[tactic(auto, using(crate::proofs::Ring::rings))]
 pub fn maps_fit(reader: Reader, image: &[u8], d: Descriptors, xid: u64, ring: u32) -> bool
     ensures { result ≡ maps_fit reader image.now d xid ring }
 {
@@ -92,14 +74,15 @@ pub fn maps_fit(reader: Reader, image: &[u8], d: Descriptors, xid: u64, ring: u3
         return true;
     }
     let n = tested(d.len, ring);
-    let mut k: u32 = 0;
-    while k < n {
+    for k in 0..n {
         match map_at(reader, image, d, xid, ring, k) {
-            MapTest::Last => return true,
-            MapTest::More => {}
-            MapTest::No => return false,
+            Some(last) => {
+                if last {
+                    return true;
+                }
+            }
+            None => return false,
         }
-        k += 1;
     }
     true
 }

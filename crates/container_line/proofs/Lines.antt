@@ -4,23 +4,14 @@ use mathlib.Core.Path.{◌≡◌, refl, sym, ap, ◌∙◌}
 use mathlib.Core.List.{List, [], ◌∷◌, ◌++◌}
 use native.Mathlib.Nat.{sub-zero}
 use native.Mathlib.Omega.{arith}
-use borrow.Author.Rules.{rules}
-use Rattle.error.specs.declared.Refusal.{Refusal}
 use Rattle.error.proofs.Laws.{same, other}
 use Rattle.text.specs.Output.{Output, puts}
 use Rattle.text.specs.Words.{ascii, digits}
-use Rattle.text.specs.declared.Position.TheVariants.{No}
 use Rattle.text.proofs.Digits.{digits_append}
 use Rattle.text.proofs.Writing.{then}
-use Rattle.checkpoints.specs.declared.by_number.Choice.{Choice}
-use Rattle.nx.specs.Open.{opened_told, open_at}
 use Rattle.nx.specs.Slots.{slot_of, slot_count, slots_in, volumes_of}
-use Rattle.nx.specs.declared.container.Container.{Container}
-use Rattle.nx.specs.declared.container.Opened.{Opened}
-use Rattle.nx.specs.declared.container.Opening.{Opening}
 use Rattle.checkpoints.specs.declared.superblock.Superblock.{Superblock}
-use Rattle.calls.specs.Filled.{Filled, filled, filled_at, answered}
-use Rattle.container_line.specs.Container.{number_words, container_head, container_text, open_counted}
+use Rattle.container_line.specs.Container.{number_words, container_head}
 
 word_append : (n : ℕ) (x : List ℕ) → 32 ∷ digits n x ≡ (32 ∷ digits n []) ++ x
 word_append n x = ap (λ (t : List ℕ). 32 ∷ t) (digits_append n [] x)
@@ -72,17 +63,3 @@ module _ (room : ℕ) (image : List ℕ) (sb : Superblock) where
           let k : slot_of image sb i ≡ 0 → ⊥ = λ t. z (e ∙ t) in
           then_word room o x _ oid _ w refl
           ∙ (rw e (ap (λ (l : List ℕ). puts room (number_words l []) o) (other _ _ _ _ _ k refl) ∙ (rw q at p)))
-
--- opening, by what it answered
-module _ (choice : Choice) (image b : List ℕ) (r : Opened) (p : opened_told r ≡ open_at choice image) where
-  pub open_got : (c : Container) (z : Filled) → r.container ≡ Opening.Got c → z ≡ filled (container_text image c []) b → record { nodes = r.nodes; result = z } ≡ answered (open_counted choice image) b
-  unfolding open_counted
-  open_got c z q h = rw (← p, q, h)
-
-  pub open_refused : (e : Refusal) → r.container ≡ Opening.No e → record { nodes = r.nodes; result = filled_at (No e) b } ≡ answered (open_counted choice image) b
-  unfolding open_counted
-  open_refused e q = rw (← p, q)
-
-pub ruleset opens = (rules, open_got, open_refused)
-
-pub ruleset volumes = (rules, volumes_start, volumes_done, volumes_zero, volumes_next)

@@ -1,8 +1,9 @@
 -- The line of a container, `(container BLOCK_SIZE BLOCK_COUNT XID OID ..)`, in the listing's notation: document 01, "The listing (added)".
 use Rattle.std.specs.Prelude.{ℕ, List, [], ◌∷◌}
-use Rattle.error.specs.Answer.{Answer, got}
+use Rattle.error.specs.Answer.{Answer, Ok}
 use Rattle.text.specs.Words.{ascii, digits, words}
-use Rattle.lookup.specs.Counted.{Counted, after, onto}
+use Rattle.lookup.specs.declared.counted.Counted.{Counted}
+use Rattle.lookup.specs.Counted.{after, onto}
 use Rattle.checkpoints.specs.declared.by_number.Choice.{Choice}
 use Rattle.nx.specs.Open.{open_at}
 use Rattle.nx.specs.Slots.{volumes_of}
@@ -23,7 +24,7 @@ container_text image c x =
 
 -- the line of a container, with the nodes gone through: document 02, request 06
 unfoldable pub open_counted : Choice → List ℕ → Counted (List ℕ)
-open_counted choice image = onto (open_at choice image) λ c s. after s (got (container_text image c []))
+open_counted choice image = onto (open_at choice image) λ c s. after s (Ok (container_text image c []))
 
 -- what `apfs_open` answers
 abbrev pub open_text : Choice → List ℕ → Answer (List ℕ)

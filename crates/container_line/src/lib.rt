@@ -8,13 +8,20 @@ ghost use Rattle.nx.specs.Slots.{volumes_of};
 ghost use Rattle.calls.specs.Filled.{filled_at, filled, called_by, answered};
 ghost use Rattle.container_line.specs.Container.{number_words, container_head, container_text, open_counted};
 
-use calls::Progress;
 use checkpoints::{Choice, Superblock};
-use nx::{Container, Opening, slot_count, slot_of};
-use text::{Position, put_all, put_byte, put_decimal};
+use error::Refusal;
+use lookup::Counted;
+use nx::{Container, slot_count, slot_of};
+use text::{put_all, put_byte, put_decimal};
 
 // A number after a space.
-fn put_word(out: &mut [u8], room: usize, p: Position, n: u64) -> Position
+#[tactic(auto, using(text::proofs::Writing::then_byte))]
+fn put_word(
+    out: &mut [u8],
+    room: usize,
+    p: Result<usize, Refusal>,
+    n: u64,
+) -> Result<usize, Refusal>
     ensures { output_of result out.new ≡ puts room (32 ∷ digits n []) (output_of p out.old) }
 {
     let q = put_byte(out, room, p, 32);
@@ -22,15 +29,20 @@ fn put_word(out: &mut [u8], room: usize, p: Position, n: u64) -> Position
 }
 
 // The object ids of the volumes, each after a space.
-fn put_volumes(out: &mut [u8], room: usize, p: Position, image: &[u8], sb: Superblock) -> Position
+#[tactic(auto, using(crate::proofs::Lines::volumes_start))]
+fn put_volumes(
+    out: &mut [u8],
+    room: usize,
+    p: Result<usize, Refusal>,
+    image: &[u8],
+    sb: Superblock,
+) -> Result<usize, Refusal>
     ensures { output_of result out.new ≡ puts room (number_words (volumes_of image.now sb) []) (output_of p out.old) }
 {
     let n = slot_count(sb);
     let mut q = p;
-    let mut i: u32 = 0;
-    while i < n {
+    for i in 0..n {
         let oid = slot_of(image, sb, i);
-        i += 1;
         if oid == 0 {
             continue;
         }
@@ -39,7 +51,14 @@ fn put_volumes(out: &mut [u8], room: usize, p: Position, image: &[u8], sb: Super
     q
 }
 
-fn put_head(out: &mut [u8], room: usize, p: Position, size: u64, count: u64, xid: u64) -> Position
+fn put_head(
+    out: &mut [u8],
+    room: usize,
+    p: Result<usize, Refusal>,
+    size: u64,
+    count: u64,
+    xid: u64,
+) -> Result<usize, Refusal>
     ensures { output_of result out.new ≡ puts room (container_head size count xid []) (output_of p out.old) }
 {
     let a = put_all(out, room, p, b"(container");
@@ -48,7 +67,14 @@ fn put_head(out: &mut [u8], room: usize, p: Position, size: u64, count: u64, xid
     put_word(out, room, c, xid)
 }
 
-fn put_container(out: &mut [u8], room: usize, p: Position, image: &[u8], c: Container) -> Position
+#[tactic(auto, using(crate::proofs::Lines::then_head, crate::proofs::Lines::then_numbers), unfolding(crate::specs::Container::container_text))]
+fn put_container(
+    out: &mut [u8],
+    room: usize,
+    p: Result<usize, Refusal>,
+    image: &[u8],
+    c: Container,
+) -> Result<usize, Refusal>
     ensures { output_of result out.new ≡ puts room (container_text image.now c []) (output_of p out.old) }
 {
     let sb = c.sb;
@@ -66,29 +92,26 @@ fn put_container(out: &mut [u8], room: usize, p: Position, image: &[u8], c: Cont
 }
 
 // Measured first: a buffer that is too short is left as it was.
-fn show(image: &[u8], c: Container, out: &mut [u8]) -> Position
+#[tactic(auto, using(calls::proofs::Filling::filled_short, calls::proofs::Filling::filled_written))]
+fn show(image: &[u8], c: Container, out: &mut [u8]) -> Result<usize, Refusal>
     ensures { filled_at result out.new ≡ filled (container_text image.now c []) out.old }
 {
     let room = out.len();
-    match put_container(&mut out[..0], room, Position::At(0), image, c) {
-        Position::No(e) => Position::No(e),
-        Position::At(_) => put_container(out, room, Position::At(0), image, c),
-    }
+    put_container(&mut out[..0], room, Ok(0), image, c)?;
+    put_container(out, room, Ok(0), image, c)
 }
 
-pub fn open_line(image: &[u8], choice: Choice, out: &mut [u8]) -> Progress
+#[tactic(auto, unfolding(crate::specs::Container::open_counted))]
+pub fn open_line(image: &[u8], choice: Choice, out: &mut [u8]) -> Counted<usize>
     ensures { called_by result out.new ≡ answered (open_counted choice image.now) out.old }
 {
     let opened = nx::open(image, choice);
-    let container = opened.container;
-    match container {
-        Opening::Got(c) => Progress {
-            at: show(image, c, out),
-            nodes: opened.nodes,
-        },
-        Opening::No(e) => Progress {
-            at: Position::No(e),
-            nodes: opened.nodes,
-        },
+    let answer = match opened.answer {
+        Ok(c) => show(image, c, out),
+        Err(e) => Err(e),
+    };
+    Counted {
+        nodes: opened.nodes,
+        answer,
     }
 }

@@ -6,7 +6,7 @@ use mathlib.Core.Logic.{◌⊎◌, inl, inr}
 use native.Mathlib.Omega.{arith}
 use lib.ListN.{length, get_or, take, drop, replicate, length-take, length-drop, length-replicate}
 use lib.Seq.{ext_get_or, get_or-take, get_or-drop}
-use Rattle.error.specs.Answer.{got}
+use Rattle.error.specs.Answer.{Ok}
 use Rattle.error.proofs.Laws.{at_most_lem, above}
 use Rattle.extents.specs.Verdict.{fine}
 use Rattle.extents.specs.Extents.{Disk, end, in_order, apart, allows, decide}
@@ -118,11 +118,11 @@ module _ (d : Disk) where
             sym (above _ _ _ _ _ t (sym (joined e es q.1 size p a n refl refl (omega (arith, q.0)) t (poured d size (a + n) es) (inside e a n refl refl v.0) (ih q.1 v.1 (omega arith) (omega arith)))))
 
     -- a file that is read whole has the bytes that a stream would pour
-    pub all_poured : (es : List Extent) (bs : List ℕ) → read_all d size es ≡ got bs → bs ≡ poured d size 0 es
+    pub all_poured : (es : List Extent) (bs : List ℕ) → read_all d size es ≡ Ok bs → bs ≡ poured d size 0 es
     unfolding read_all bytes
     all_poured es bs w = go (le_or_gt size 0)
       where
-        c : (apart es ≡ fine) × (read_at d size es 0 size ≡ got bs)
+        c : (apart es ≡ fine) × (read_at d size es 0 size ≡ Ok bs)
         c = went (apart es) _ _ w
 
         m : min size (size - 0) ≡ size - 0
@@ -141,7 +141,7 @@ module _ (d : Disk) where
             ∙ sym (poured_bytes 0 0 es c.0 v (omega arith) (omega arith))
 
     -- where it is also read as a stream, the bytes are the same
-    pub agree : (es : List Extent) (bs cs : List ℕ) → read_all d size es ≡ got bs → stream d size es ≡ got cs → bs ≡ cs
+    pub agree : (es : List Extent) (bs cs : List ℕ) → read_all d size es ≡ Ok bs → stream d size es ≡ Ok cs → bs ≡ cs
     unfolding stream
     agree es bs cs w v =
         let q = went (settle d size 0 es) _ _ (sym (stream_two d size 0 es) ∙ v) in

@@ -1,14 +1,15 @@
 -- The turns of the loop over a file's extents, and what a whole read refuses as the definition has it.
-use Prim.Native.Nat.{ℕ, ◌-◌, ◌≤◌, ◌<◌}
+use Prim.Native.Nat.{ℕ, ◌≤◌, ◌<◌}
 use mathlib.Core.Path.{◌≡◌, refl, sym, ap, ◌∙◌}
 use mathlib.Core.List.{List, [], ◌∷◌}
 use mathlib.Core.Logic.{◌⊎◌, inl, inr}
-use native.Mathlib.Omega.{arith}
-use Rattle.error.specs.Answer.{Answer, got, no}
+use borrow.Author.Rules.{rules}
+use Rattle.error.specs.Answer.{Answer, Ok, Err}
 use Rattle.error.specs.declared.Refusal.{Refusal}
 use Rattle.error.specs.declared.Refusal.TheVariants.{Corrupt}
 use Rattle.error.proofs.Laws.{at_most_lem, above}
-use Rattle.lookup.specs.Counted.{Counted, after, onto}
+use Rattle.lookup.specs.declared.counted.Counted.{Counted}
+use Rattle.lookup.specs.Counted.{after, onto}
 use Rattle.btree.specs.Scan.{Run, scan_of}
 use Rattle.btree.specs.declared.entries.Search.{Search}
 use Rattle.node.specs.declared.place.Place.{Place}
@@ -20,7 +21,9 @@ use Rattle.records.specs.Extent.{extent_at}
 use Rattle.records.specs.declared.extent.Extent.{Extent}
 use Rattle.inode_record.specs.declared.inode.Inode.{Inode}
 use Rattle.lists.specs.Lists.{search_of, list_of}
-use Rattle.lists.specs.Seen.{Seen, over, element, seen_in}
+use Rattle.lists.specs.declared.seen.Seen.{Seen}
+use Rattle.lists.specs.declared.seen.Seen.TheVariants.{Over, Element}
+use Rattle.lists.specs.Seen.{seen_in}
 use Rattle.lists.proofs.Reading.{reading, list_start, list_over, list_at}
 use Rattle.lists.proofs.Turns as list-turns
 use Rattle.extents.proofs.Verdicts.{le_or_gt}
@@ -28,29 +31,10 @@ use Rattle.extents.specs.Verdict.{Verdict, fine, ◌>>◌, at_most}
 use Rattle.extents.specs.Extents.{disk_of, end, in_order, apart, decide, seek}
 use Rattle.extents.specs.Inner.{judge_of, judged_told, judged_of}
 use Rattle.extents.proofs.JudgeTurns.{told_decided}
-use Rattle.files.specs.File.{size_of}
-use Rattle.extents.specs.Ruling.{ruled}
-use Rattle.extents.specs.declared.verdict.Ruling.{Ruling}
 use Rattle.extents.specs.declared.deciding.Judged.{Judged}
-use Rattle.streams.specs.Streams.{settled_told}
-use Rattle.streams.specs.declared.settle.Settled.{Settled}
 use Rattle.contents.specs.Whole.{settled_whole}
 use Rattle.contents.specs.Inner.{apart_after, apart_of, whole_verdict, whole_over, whole_from, whole_by}
 use Rattle.contents.proofs.Plain.{whole_is}
-
-module _ (r : Ruling) (last e : Extent) where
-  pub apart_no : (w : Refusal) → r ≡ Ruling.No w → no w ≡ apart_after (ruled r) last e
-  apart_no w q = rw q
-
-  module _ (q : r ≡ Ruling.Fine) where
-    pub apart_before : e.logical < last.logical → no Corrupt ≡ apart_after (ruled r) last e
-    apart_before h = rw q (above _ _ _ _ _ (omega arith) refl)
-
-    pub apart_within : last.logical ≤ e.logical → e.logical - last.logical < last.len → no Corrupt ≡ apart_after (ruled r) last e
-    apart_within h k = rw q (above _ _ _ _ _ (omega arith) refl)
-
-    pub apart_fine : last.logical ≤ e.logical → last.len ≤ e.logical - last.logical → fine ≡ apart_after (ruled r) last e
-    apart_fine h k = rw q (at_most_lem _ _ _ _ _ (omega arith) refl)
 
 -- the verdict so far, and what is left after the last extent
 unfoldable pub ordering : Verdict → Extent → List Extent → Verdict
@@ -66,13 +50,13 @@ order_cons at e es = of (le_or_gt at e.logical)
 
 ordering_next : (v z : Verdict) (last e : Extent) → z ≡ apart_after v last e → (es : List Extent) → ordering v last (e ∷ es) ≡ ordering z e es
 unfolding ordering
-ordering_next (got tt) z last e p es = rw p (order_cons (end last) e es)
-ordering_next (no w) z last e p es = rw p
+ordering_next (Ok tt) z last e p es = rw p (order_cons (end last) e es)
+ordering_next (Err w) z last e p es = rw p
 
 ordering_end : (v : Verdict) (last : Extent) → ordering v last [] ≡ v
 unfolding ordering in_order
-ordering_end (got tt) last = refl
-ordering_end (no w) last = refl
+ordering_end (Ok tt) last = refl
+ordering_end (Err w) last = refl
 
 pub apart_start : (g : Place → Answer Extent) (n : Run) (last : Extent) → last ≡ record { logical = 0; len = 0; phys_block = 0 }
     → reading g (ordering fine last) n ≡ (onto (list_of g n) λ es t. after t (apart es))
@@ -81,67 +65,53 @@ apart_start g n last h = rw h (list_start g (ordering fine (record { logical = 0
 
 module _ (g : Place → Answer Extent) (b : List ℕ) (q : Search) (s : Step) (i : ℕ) (x : Seen Extent) (t : x ≡ seen_in g (in_step b q s.reached i))
     (v : Verdict) (last : Extent) (whole : Counted (Unit {0})) (inv : reading g (ordering v last) (run_at b q s i) ≡ whole) where
-  pub apart_end : x ≡ over → after s.nodes v ≡ whole
+  pub apart_end : x ≡ Over → after s.nodes v ≡ whole
   apart_end e = ap (after s.nodes) (sym (ordering_end v last)) ∙ list_over g b q s i x t (ordering v last) whole inv e
 
-  pub apart_next : (z : Verdict) (e : Extent) (a : ℕ) → x ≡ element e a → z ≡ apart_after v last e → reading g (ordering z e) (run_at b q s a) ≡ whole
+  pub apart_next : (z : Verdict) (e : Extent) (a : ℕ) → x ≡ Element e a → z ≡ apart_after v last e → reading g (ordering z e) (run_at b q s a) ≡ whole
   apart_next z e a h k = list_at g b q s i x t (ordering v last) whole inv (ordering z e) e a h (ordering_next v z last e k)
-
-pub apart_done : (b : List ℕ) (q : Search) (m : Run) (n : ℕ) (x : Ruling) (r : Settled) → r ≡ record { ruling = x; nodes = n }
-    → after n (ruled x) ≡ (onto (list_of (extent_at q.keys.reader b) m) λ es t. after t (apart es)) → settled_told r ≡ apart_of b q m
-unfolding apart_of
-apart_done b q m n x r h g = rw h g
 
 -- two tests of one list, one after the other
 module _ (n : ℕ) (f g : List Extent → Verdict) where
-  first_no : (a : Answer (List Extent)) (m : ℕ) (w : Refusal) → after m (no w) ≡ (onto (after n a) λ es t. after t (f es)) → after m (no w) ≡ (onto (after n a) λ es t. after t (f es >> g es))
-  first_no (got es) m w h =
+  first_no : (a : Answer (List Extent)) (m : ℕ) (w : Refusal) → after m (Err w) ≡ (onto (after n a) λ es t. after t (f es)) → after m (Err w) ≡ (onto (after n a) λ es t. after t (f es >> g es))
+  first_no (Ok es) m w h =
       let k : m ≡ n = ap (λ (c : Counted (Unit {0})). c.nodes) h in
-      let v : f es ≡ no w = sym (ap (λ (c : Counted (Unit {0})). c.answer) h) in
+      let v : f es ≡ Err w = sym (ap (λ (c : Counted (Unit {0})). c.answer) h) in
       rw (k, v)
-  first_no (no e) m w h = h
+  first_no (Err e) m w h = h
 
   then_second : (a : Answer (List Extent)) (m k : ℕ) (v : Verdict) → after m fine ≡ (onto (after n a) λ es t. after t (f es)) → after k v ≡ (onto (after n a) λ es t. after t (g es))
       → after k v ≡ (onto (after n a) λ es t. after t (f es >> g es))
-  then_second (got es) m k v h u =
+  then_second (Ok es) m k v h u =
       let w : f es ≡ fine = sym (ap (λ (c : Counted (Unit {0})). c.answer) h) in
       rw w u
-  then_second (no e) m k v h u = u
+  then_second (Err e) m k v h u = u
 
-module _ (b : List ℕ) (q : Search) (size : ℕ) (s : Run) (a : Settled) (p : settled_told a ≡ apart_of b q s) (r : Settled) where
-  pub whole_no : (w : Refusal) → a.ruling ≡ Ruling.No w → r ≡ record { ruling = Ruling.No w; nodes = a.nodes } → settled_told r ≡ whole_over b q size s
+module _ (b : List ℕ) (q : Search) (size : ℕ) (s : Run) (a : Counted (Unit {0})) (p : a ≡ apart_of b q s) where
+  pub whole_no : (w : Refusal) → a.answer ≡ Err w → a ≡ whole_over b q size s
   unfolding apart_of whole_over whole_verdict
-  whole_no w h e =
-      let k : after a.nodes (no w) ≡ settled_told a = ap (λ (x : Ruling). after a.nodes (ruled x)) (sym h) in
-      ap settled_told e
+  whole_no w h =
+      let k : after a.nodes (Err w) ≡ a = ap (λ (x : Verdict). after a.nodes x) (sym h) in
+      sym k
       ∙ first_no (list_of (extent_at q.keys.reader b) s).nodes apart (judge_of (disk_of q.keys.reader b) 0 size) (list_of (extent_at q.keys.reader b) s).answer a.nodes w (k ∙ p)
 
-  pub whole_judged : (j : Judged) (x : Ruling) → a.ruling ≡ Ruling.Fine → judged_told b q j ≡ judged_of b q 0 size s → x ≡ j.ruling → r ≡ record { ruling = x; nodes = j.nodes } → settled_told r ≡ whole_over b q size s
+  pub whole_judged : (j : Judged) → a.answer ≡ fine → judged_told b q j ≡ judged_of b q 0 size s → after j.nodes j.ruling ≡ whole_over b q size s
   unfolding apart_of whole_over whole_verdict
-  whole_judged j x h d y e =
-      let k : after a.nodes fine ≡ settled_told a = ap (λ (z : Ruling). after a.nodes (ruled z)) (sym h) in
-      ap settled_told e ∙ ap (λ (z : Ruling). after j.nodes (ruled z)) y
-      ∙ then_second (list_of (extent_at q.keys.reader b) s).nodes apart (judge_of (disk_of q.keys.reader b) 0 size) (list_of (extent_at q.keys.reader b) s).answer a.nodes j.nodes (ruled j.ruling) (k ∙ p) (told_decided b q 0 size s j d).verdict
-
-pub whole_done : (b : List ℕ) (v : Volume) (i : Inode) (size : ℕ) (q : Search) (t : Step) (r : Settled) → q ≡ search_of v i.ids.private_id 8 → size ≡ size_of i
-    → settled_told r ≡ whole_over b q size (run_at b q t t.from) → settled_told r ≡ whole_from b v i (run_at b (search_of v i.ids.private_id 8) t t.from)
-unfolding whole_from
-whole_done b v i size q t r e h g = rw (e, h) at g
+  whole_judged j h d =
+      let k : after a.nodes fine ≡ a = ap (λ (z : Verdict). after a.nodes z) (sym h) in
+      then_second (list_of (extent_at q.keys.reader b) s).nodes apart (judge_of (disk_of q.keys.reader b) 0 size) (list_of (extent_at q.keys.reader b) s).answer a.nodes j.nodes j.ruling (k ∙ p) (told_decided b q 0 size s j d).verdict
 
 -- a file without extents
-pub whole_none : (b : List ℕ) (v : Volume) (i : Inode) (t : Step) (r : Settled) → t.reached ≡ Reached.End → r ≡ record { ruling = Ruling.Fine; nodes = t.nodes } →
-    settled_told r ≡ whole_from b v i (run_at b (search_of v i.ids.private_id 8) t t.from)
+pub whole_none : (b : List ℕ) (v : Volume) (i : Inode) (t : Step) → t.reached ≡ Reached.End → after t.nodes fine ≡ whole_from b v i (run_at b (search_of v i.ids.private_id 8) t t.from)
 unfolding whole_from whole_over whole_verdict in_order judge_of decide seek list_of run_at
-whole_none b v i t r e h = rw (h, e)
+whole_none b v i t e = rw e
 
 -- where the step begins the file's extents
-pub whole_begun : (b : List ℕ) (v : Volume) (i : Inode) (s : ℕ) (q : Search) (t : Step) (r : Settled) → q ≡ search_of v i.ids.private_id 8 → Begins b q t (scan_of b q s)
-    → settled_told r ≡ whole_from b v i (run_at b (search_of v i.ids.private_id 8) t t.from) → settled_told r ≡ settled_whole b v i s
+pub whole_begun : (b : List ℕ) (v : Volume) (i : Inode) (s : ℕ) (q : Search) (t : Step) (r : Counted (Unit {0})) → q ≡ search_of v i.ids.private_id 8 → Begins b q t (scan_of b q s)
+    → r ≡ whole_from b v i (run_at b (search_of v i.ids.private_id 8) t t.from) → r ≡ settled_whole b v i s
 unfolding whole_by
 whole_begun b v i s q t r e h g = (rw (rw e at h.run) at g) ∙ sym (whole_is b v i s)
 
-pub ruleset all = (list-turns.turns, apart_no, apart_before, apart_within, apart_fine)
+pub ruleset aparts = (list-turns.turns, apart_start, apart_end, apart_next)
 
-pub ruleset aparts = (list-turns.turns, apart_start, apart_end, apart_next, apart_done)
-
-pub ruleset wholes = (list-turns.turns, whole_no, whole_judged, whole_done, whole_none)
+pub ruleset wholes = (rules, whole_no, whole_judged, whole_none)

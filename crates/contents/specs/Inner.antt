@@ -2,7 +2,8 @@
 -- where it is fine the bytes of the file are those that a stream pours (`plain_settled`, there).
 use Rattle.std.specs.Prelude.{ℕ, List}
 use Rattle.error.specs.declared.Refusal.TheVariants.{Corrupt}
-use Rattle.lookup.specs.Counted.{Counted, after, onto}
+use Rattle.lookup.specs.declared.counted.Counted.{Counted}
+use Rattle.lookup.specs.Counted.{after, onto}
 use Rattle.btree.specs.Scan.{Run, scan_of}
 use Rattle.btree.specs.declared.entries.Search.{Search}
 use Rattle.volume.specs.declared.Volume.{Volume}

@@ -1,6 +1,7 @@
 -- What the listing refuses of a file's contents. Document 01, "The listing (added)": "a stream's or file's bytes are read for their own line".
 use Rattle.std.specs.Prelude.{ℕ, List}
-use Rattle.lookup.specs.Counted.{Counted, after, onto}
+use Rattle.lookup.specs.declared.counted.Counted.{Counted}
+use Rattle.lookup.specs.Counted.{after, onto}
 use Rattle.volume.specs.declared.Volume.{Volume}
 use Rattle.inode_record.specs.declared.inode.Inode.{Inode}
 use Rattle.extents.specs.Verdict.{fine}

@@ -2,8 +2,6 @@
 #![tactic(auto)]
 
 ghost use Rattle.std.specs.Prelude.{◌≡◌};
-ghost use Rattle.extents.specs.Ruling.{ruled};
-ghost use Rattle.streams.specs.Streams.{settled_told};
 ghost use Rattle.cursor.specs.Left.{run_at};
 ghost use Rattle.lists.specs.Lists.{search_of};
 ghost use Rattle.contents.specs.Inner.{apart_after, apart_of, whole_over, whole_from};
@@ -11,47 +9,32 @@ ghost use Rattle.contents.specs.Inner.{apart_after, apart_of, whole_over, whole_
 use btree::Search;
 use cursor::{Reached, Step, next};
 use error::Refusal;
-use extents::{Ruling, judge_from};
+use extents::judge_from;
 use files::size_of;
 use inode_record::Inode;
-use lists::{ExtentIn, extent_in, search};
+use lists::{Seen, extent_in, search};
+use lookup::Counted;
 use records::Extent;
-use streams::Settled;
 use volume::Volume;
 
-fn with_nodes(ruling: Ruling, nodes: u64) -> Settled
-    ensures { result ≡ record { ruling = ruling; nodes = nodes } }
-{
-    Settled {
-        ruling: ruling,
-        nodes: nodes,
-    }
-}
-
 // The end of an extent may pass 2^64 - 1, so it is not summed.
-fn apart_after(ruling: Ruling, last: Extent, e: Extent) -> Ruling
-    ensures { ruled result ≡ apart_after (ruled ruling) last e }
+#[tactic(auto, unfolding(error::specs::Answer::if_le))]
+fn apart_after(ruling: Result<(), Refusal>, last: Extent, e: Extent) -> Result<(), Refusal>
+    ensures { result ≡ apart_after (ruling) last e }
 {
-    match ruling {
-        Ruling::No(w) => Ruling::No(w),
-        Ruling::Fine => {
-            if e.logical < last.logical {
-                return Ruling::No(Refusal::Corrupt);
-            }
-            if e.logical - last.logical < last.len {
-                return Ruling::No(Refusal::Corrupt);
-            }
-            Ruling::Fine
-        }
+    ruling?;
+    if e.logical < last.logical || e.logical - last.logical < last.len {
+        return Err(Refusal::Corrupt);
     }
+    Ok(())
 }
 
 // All extents are read before the first of them is judged.
-fn apart(image: &[u8], q: Search, start: Step) -> Settled
-    ensures { settled_told result ≡ apart_of image.now q (run_at image.now q start start.from) }
+#[tactic(auto, using(crate::proofs::Laws::aparts), unfolding(crate::specs::Inner::apart_of))]
+fn apart(image: &[u8], q: Search, start: Step) -> Counted<()>
+    ensures { result ≡ apart_of image.now q (run_at image.now q start start.from) }
 {
-    let keys = q.keys;
-    let mut ruling = Ruling::Fine;
+    let mut ruling = Ok(());
     let mut last = Extent {
         logical: 0,
         len: 0,
@@ -60,16 +43,24 @@ fn apart(image: &[u8], q: Search, start: Step) -> Settled
     let mut s = start;
     let mut i = s.from;
     loop {
-        let at = s.reached;
-        match extent_in(image, keys, at, i) {
-            ExtentIn::Over => return with_nodes(ruling, s.nodes),
-            ExtentIn::No(w) => return with_nodes(Ruling::No(w), s.nodes),
-            ExtentIn::Passed => {
-                let c = s.path;
-                s = next(image, q, c, s.level, s.nodes);
+        match extent_in(image, q.keys, s.reached, i) {
+            Seen::Over => {
+                return Counted {
+                    nodes: s.nodes,
+                    answer: ruling,
+                };
+            }
+            Seen::Refused(w) => {
+                return Counted {
+                    nodes: s.nodes,
+                    answer: Err(w),
+                };
+            }
+            Seen::Passed => {
+                s = next(image, q, s.path, s.level, s.nodes);
                 i = s.from;
             }
-            ExtentIn::At(e, after) => {
+            Seen::Element(e, after) => {
                 ruling = apart_after(ruling, last, e);
                 last = e;
                 i = after;
@@ -78,30 +69,32 @@ fn apart(image: &[u8], q: Search, start: Step) -> Settled
     }
 }
 
-fn whole_over(image: &[u8], q: Search, size: u64, start: Step) -> Settled
-    ensures { settled_told result ≡ whole_over image.now q size (run_at image.now q start start.from) }
+#[tactic(auto, using(crate::proofs::Laws::wholes))]
+fn whole_over(image: &[u8], q: Search, size: u64, start: Step) -> Counted<()>
+    ensures { result ≡ whole_over image.now q size (run_at image.now q start start.from) }
 {
     let a = apart(image, q, start);
-    let ruling = a.ruling;
-    match ruling {
-        Ruling::No(w) => with_nodes(Ruling::No(w), a.nodes),
-        Ruling::Fine => {
-            let j = judge_from(image, q, 0, size, start);
-            let judged = j.ruling;
-            with_nodes(judged, j.nodes)
-        }
+    if let Err(_) = a.answer {
+        return a;
+    }
+    let j = judge_from(image, q, 0, size, start);
+    Counted {
+        nodes: j.nodes,
+        answer: j.ruling,
     }
 }
 
 // Whether the whole of a file that is not compressed can be read, its extents from a step on; where there is none nothing is refused.
-pub fn settle_whole(image: &[u8], v: Volume, inode: Inode, start: Step) -> Settled
-    ensures { settled_told result ≡ whole_from image.now v inode (run_at image.now (search_of v inode.ids.private_id 8) start start.from) }
+#[tactic(auto, using(crate::proofs::Laws::whole_none), unfolding(crate::specs::Inner::whole_from))]
+pub fn settle_whole(image: &[u8], v: Volume, inode: Inode, start: Step) -> Counted<()>
+    ensures { result ≡ whole_from image.now v inode (run_at image.now (search_of v inode.ids.private_id 8) start start.from) }
 {
-    let reached = start.reached;
-    if let Reached::End = reached {
-        return with_nodes(Ruling::Fine, start.nodes);
+    if let Reached::End = start.reached {
+        return Counted {
+            nodes: start.nodes,
+            answer: Ok(()),
+        };
     }
-    let ids = inode.ids;
-    let size = size_of(inode);
-    whole_over(image, search(v, ids.private_id, 8), size, start)
+    let q = search(v, inode.ids.private_id, 8);
+    whole_over(image, q, size_of(inode), start)
 }

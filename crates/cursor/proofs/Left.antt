@@ -7,14 +7,13 @@ use lib.Seq.{get_or-set_same, get_or-set_other}
 use native.Mathlib.Omega.{arith}
 use native.Mathlib.Decide.{ℕ_discrete}
 use borrow.Author.Rules.{rules}
-use Rattle.error.specs.Answer.{Answer, got, no}
+use Rattle.error.specs.Answer.{Answer, Ok, Err}
 use Rattle.error.specs.declared.Refusal.{Refusal}
 use Rattle.error.proofs.Laws.{same, other, eq_cases}
 use Rattle.obj.specs.Block.{block_of}
 use Rattle.arith.specs.Checked.{ticked}
-use Rattle.node.specs.Node.{leaf_bit, parsed, node_of}
+use Rattle.node.specs.Node.{leaf_bit, node_of}
 use Rattle.node.specs.declared.layout.Node.{Node}
-use Rattle.node.specs.declared.layout.Parsed.{Parsed}
 use Rattle.lookup.specs.Read.{node_at}
 use Rattle.lookup.proofs.Again.{read_again, again_block}
 use Rattle.btree.specs.Scan.{Run, end, refused, Tail, scan_of}
@@ -44,15 +43,15 @@ module _ (b : List ℕ) (q : Search) where
   unfolding node_on
   known_root = sym (same _ _ _ _ _ refl refl)
 
-  pub known_child : (level : ℕ) (m : Node) → level < q.root.level → node_at q.keys.reader b m.block ≡ got m → Known b q level m
+  pub known_child : (level : ℕ) (m : Node) → level < q.root.level → node_at q.keys.reader b m.block ≡ Ok m → Known b q level m
   unfolding node_on
   known_child level m h e = sym (other _ _ _ _ _ (λ z. omega arith) (sym (read_again q.keys.reader b m.block m e)))
 
-  pub known_again : (level block : ℕ) (m : Node) → node_on b q level block ≡ got m → Known b q level m
+  pub known_again : (level block : ℕ) (m : Node) → node_on b q level block ≡ Ok m → Known b q level m
   unfolding node_on
-  known_again level block m = eq_cases (λ (a : Answer Node). a ≡ got m → Known b q level m) (λ z e. sym (same _ _ _ _ _ z (sym e))) (λ z e.
+  known_again level block m = eq_cases (λ (a : Answer Node). a ≡ Ok m → Known b q level m) (λ z e. sym (same _ _ _ _ _ z (sym e))) (λ z e.
       let j : m.block ≡ block = again_block block (block_of q.keys.reader b block) m e in
-      let f : node_of m.block (block_of q.keys.reader b m.block) ≡ got m = ap (λ (x : ℕ). node_of x (block_of q.keys.reader b x)) j ∙ e in
+      let f : node_of m.block (block_of q.keys.reader b m.block) ≡ Ok m = ap (λ (x : ℕ). node_of x (block_of q.keys.reader b x)) j ∙ e in
       sym (other _ _ _ _ _ z (sym f)))
 
   -- what is left of the levels above l, after a mark is put at l
@@ -208,19 +207,19 @@ module _ (b : List ℕ) (q : Search) (c : Path) (l s : ℕ) (whole : Run) (p : l
   unfolding left levels
   left_done h = let n : top_of q - l ≡ 0 = omega arith in rw n at p
 
-  module _ (k : Mark) (h : l < top_of q) (g : k ≡ mark_of c (l + 1)) (x : Parsed) (e : parsed x ≡ node_on b q (l + 1) k.block) where
-    level_goes : go_on b q (l + 1) (parsed x) k.next (left b q c (l + 1)) s ≡ whole
+  module _ (k : Mark) (h : l < top_of q) (g : k ≡ mark_of c (l + 1)) (x : Answer Node) (e : x ≡ node_on b q (l + 1) k.block) where
+    level_goes : go_on b q (l + 1) x k.next (left b q c (l + 1)) s ≡ whole
     unfolding left levels
     level_goes =
         let n : top_of q - l ≡ suc (top_of q - (l + 1)) = omega arith in
         rw (e, g) (rw n at p)
 
-    pub level_no : (w : Refusal) → x ≡ Parsed.No w → refused w s ≡ whole
+    pub level_no : (w : Refusal) → x ≡ Err w → refused w s ≡ whole
     level_no w d = rw d at level_goes
 
-    module _ (m : Node) (d : x ≡ Parsed.Got m) where
+    module _ (m : Node) (d : x ≡ Ok m) where
       pub level_known : Known b q (l + 1) m
-      level_known = known_again b q (l + 1) k.block m (sym e ∙ ap parsed d)
+      level_known = known_again b q (l + 1) k.block m (sym e ∙ d)
 
       module _ (r : PartStep) (y : Makes b q r (left b q c (l + 1)) (walk b q (l + 1) m k.next (left b q c (l + 1)) s)) where
         level_came : Makes b q r (left b q c (l + 1)) whole
@@ -264,7 +263,7 @@ after_some b q m i x p a t e = omega (arith, in_bound b q m i p a (sym t ∙ e))
 
 -- the node of a level, as it is read
 module _ (b : List ℕ) (q : Search) (level block : ℕ) where
-  pub on_root : level ≡ q.root.level → got q.root ≡ node_on b q level block
+  pub on_root : level ≡ q.root.level → Ok q.root ≡ node_on b q level block
   unfolding node_on
   on_root e = same _ _ _ _ _ e refl
 

@@ -8,12 +8,11 @@ use lib.Seq.{get_or-set_same, get_or-set_other}
 use native.Mathlib.Omega.{arith}
 use borrow.Author.Rules.{rules}
 use borrow.Author.Tests.{not-true, not-false}
-use Rattle.error.specs.Answer.{Answer, got, no}
+use Rattle.error.specs.Answer.{Answer, Ok, Err}
 use Rattle.error.specs.declared.Refusal.{Refusal}
 use Rattle.arith.specs.Checked.{ticked}
-use Rattle.node.specs.Node.{leaf_bit, parsed}
+use Rattle.node.specs.Node.{leaf_bit}
 use Rattle.node.specs.declared.layout.Node.{Node}
-use Rattle.node.specs.declared.layout.Parsed.{Parsed}
 use Rattle.btree.specs.Scan.{Run, end, Tail, scan_of}
 use Rattle.btree.specs.Inner.{leaf_from, in_node, each, Reaches, child, walk, kinded, stays_at}
 use Rattle.btree.specs.declared.entries.Search.{Search}
@@ -157,17 +156,17 @@ module _ (b : List ℕ) (q : Search) (top : ℕ) (u : top ≡ top_of q) (c : Pat
   unfolding stays_on levels_stay
   stays_done h = let n : top_of q - l ≡ 0 = omega arith in rw n at p
 
-  module _ (k : Mark) (h : l < top) (g : k ≡ mark_of c (l + 1)) (x : Parsed) (e : parsed x ≡ node_on b q (l + 1) k.block) where
-    stay_goes : stay_of b q (parsed x) k.next (stays_on b q c (l + 1)) ≡ whole
+  module _ (k : Mark) (h : l < top) (g : k ≡ mark_of c (l + 1)) (x : Answer Node) (e : x ≡ node_on b q (l + 1) k.block) where
+    stay_goes : stay_of b q x k.next (stays_on b q c (l + 1)) ≡ whole
     unfolding stays_on levels_stay
     stay_goes =
         let n : top_of q - l ≡ suc (top_of q - (l + 1)) = omega arith in
         rw (e, g) (rw n at p)
 
-    pub stay_unread : (w : Refusal) → x ≡ Parsed.No w → false ≡ whole
+    pub stay_unread : (w : Refusal) → x ≡ Err w → false ≡ whole
     stay_unread w d = rw d at stay_goes
 
-    module _ (m : Node) (d : x ≡ Parsed.Got m) (z : Bool) (f : z ≡ stays_at b q m k.next) where
+    module _ (m : Node) (d : x ≡ Ok m) (z : Bool) (f : z ≡ stays_at b q m k.next) where
       pub stay_on : not z ≡ false → stays_on b q c (l + 1) ≡ whole
       stay_on t = rw (← f, not-false z t) at (rw d at stay_goes)
 

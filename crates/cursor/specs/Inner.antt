@@ -1,7 +1,7 @@
 -- The cursor's loops: a buyer may pass over this file. A step of a part of the tree (`Makes`) is proved to be what `walk`, `leaf_from` and `child` of
 -- btree's specs/Inner.antt leave, and the step of the whole tree to begin the run (`Begins`, specs/Left.antt).
 use Rattle.std.specs.Prelude.{ℕ, ◌-◌, ◌≡◌, List, get_or, set, replicate}
-use Rattle.error.specs.Answer.{got}
+use Rattle.error.specs.Answer.{Ok}
 use Rattle.node.specs.declared.layout.Node.{Node}
 use Rattle.btree.specs.Scan.{Run, end, refused, Tail}
 use Rattle.btree.specs.Inner.{leaf_from, in_node, each, child}
@@ -27,7 +27,7 @@ with_mark c level k = record { marks = set c.marks level k }
 
 -- a node that is found again by its block
 abbrev pub Known : List ℕ → Search → ℕ → Node → Type 0
-Known b q level m = node_on b q level m.block ≡ got m
+Known b q level m = node_on b q level m.block ≡ Ok m
 
 -- what is left of an index node of a level from its i-th entry on, and above it
 abbrev pub onward : List ℕ → Search → ℕ → Node → ℕ → Path → Tail

@@ -2,7 +2,7 @@
 -- Document 01, btree.rs, `scan`. A reader of a caller needs no more of it than this: `first` begins the run that is the whole scan, `next` the
 -- one that is left behind a leaf.
 use Rattle.std.specs.Prelude.{ℕ, zero, suc, ◌+◌, ◌-◌, min, ◌≡◌, List, get_or}
-use Rattle.error.specs.Answer.{Answer, got, no, if_eq}
+use Rattle.error.specs.Answer.{Answer, Ok, Err, if_eq}
 use Rattle.obj.specs.Block.{block_of}
 use Rattle.node.specs.Node.{node_of}
 use Rattle.node.specs.declared.layout.Node.{Node}
@@ -24,14 +24,14 @@ top_of q = min q.root.level 32
 
 -- the node of a level on the path: the root, or what its block holds
 unfoldable pub node_on : List ℕ → Search → ℕ → ℕ → Answer Node
-node_on b q level block = if_eq level q.root.level (got q.root) (node_of block (block_of q.keys.reader b block))
+node_on b q level block = if_eq level q.root.level (Ok q.root) (node_of block (block_of q.keys.reader b block))
 
 abbrev pub no_mark : Mark
 no_mark = record { block = 0; next = 0 }
 
 abbrev pub go_on : List ℕ → Search → ℕ → Answer Node → ℕ → Tail → Tail
-go_on b q level (got m) i k = walk b q level m i k
-go_on b q level (no e) i k = refused e
+go_on b q level (Ok m) i k = walk b q level m i k
+go_on b q level (Err e) i k = refused e
 
 -- what is left of n levels from a level on
 unfoldable pub levels : List ℕ → Search → List Mark → ℕ → ℕ → Tail

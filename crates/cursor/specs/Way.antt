@@ -1,7 +1,7 @@
 -- The way down to an id's first record, on which the scans of its greater kinds begin too: a buyer may pass over this file.
 -- `begin` and `resume` are proved to begin `scan_of` (`Begins`, specs/Left.antt).
 use Rattle.std.specs.Prelude.{ℕ, zero, suc, ◌+◌, ◌-◌, ◌≤◌, ◌<◌, ◌≡◌, Bool, true, false, cond, List, get_or}
-use Rattle.error.specs.Answer.{Answer, got, no}
+use Rattle.error.specs.Answer.{Answer, Ok, Err}
 use Rattle.node.specs.declared.layout.Node.{Node}
 use Rattle.btree.specs.Scan.{scan_of}
 use Rattle.btree.specs.Inner.{in_node, walk, kinded, stays_at}
@@ -16,8 +16,8 @@ use Rattle.cursor.specs.declared.way.Way.{Way}
 
 -- whether a search goes into the child before the i-th entry of a node
 abbrev pub stay_of : List ℕ → Search → Answer Node → ℕ → Bool → Bool
-stay_of b q (got m) i x = cond (stays_at b q m i) x false
-stay_of b q (no e) i x = false
+stay_of b q (Ok m) i x = cond (stays_at b q m i) x false
+stay_of b q (Err e) i x = false
 
 -- and so on n levels from a level on
 unfoldable pub levels_stay : List ℕ → Search → List Mark → ℕ → ℕ → Bool

@@ -1,11 +1,11 @@
 // The way down to a leaf: for each level above it a block, and the entry at which its node goes on.
 ghost use Rattle.std.specs.Prelude.{◌≡◌, ◌<◌, length};
-ghost use Rattle.node.specs.Node.{parsed};
 ghost use Rattle.cursor.specs.Left.{top_of, node_on};
 ghost use Rattle.cursor.specs.Inner.{none_left, mark_of, with_mark};
 
 use btree::Search;
-use node::{Parsed, parse};
+use error::Refusal;
+use node::{Node, parse};
 
 #[derive(Clone, Copy)]
 pub struct Mark {
@@ -56,12 +56,12 @@ pub fn top_of(q: Search) -> u16
 }
 
 // The node of a level on the path: its block was verified on the way down.
-pub fn node_on(image: &[u8], q: Search, level: u16, block: u64) -> Parsed
-    ensures { parsed result ≡ node_on image.now q level block }
+pub fn node_on(image: &[u8], q: Search, level: u16, block: u64) -> Result<Node, Refusal>
+    ensures { result ≡ node_on image.now q level block }
 {
     let root = q.root;
     if level == root.level {
-        return Parsed::Got(root);
+        return Ok(root);
     }
     parse(q.keys.reader.block(image, block), block)
 }

@@ -9,7 +9,7 @@ use crate::walk::{InPart, PartStep, part_step, walk_from};
 use arith::tick;
 use btree::{InLeaf, Keys, Search, next_in};
 use error::Refusal;
-use node::{Node, Parsed};
+use node::Node;
 
 // A leaf that the scan has come to, or how the scan ended.
 #[derive(Clone, Copy)]
@@ -90,8 +90,8 @@ pub fn next(image: &[u8], q: Search, c: Path, level: u16, nodes: u64) -> Step
         l += 1;
         let k = mark_of(c, l);
         match node_on(image, q, l, k.block) {
-            Parsed::No(e) => return whole(part_step(InPart::No(e), 0, l, c, n)),
-            Parsed::Got(m) => {
+            Err(e) => return whole(part_step(InPart::No(e), 0, l, c, n)),
+            Ok(m) => {
                 let s = walk_from(image, q, l, m, k.next, c, n);
                 let found = s.found;
                 match found {

@@ -1,6 +1,6 @@
 // The next leaf that has a record, or ends the scan, in a part of the tree.
 ghost use Rattle.std.specs.Prelude.{◌≡◌, ◌-◌, ◌≤◌};
-ghost use Rattle.error.specs.Answer.{got};
+ghost use Rattle.error.specs.Answer.{Ok};
 ghost use Rattle.node.specs.Node.{leaf_bit};
 ghost use Rattle.lookup.specs.Read.{node_at};
 ghost use Rattle.btree.specs.Inner.{leaf_from, walk, child};
@@ -119,7 +119,7 @@ fn descend(
     c: Path,
     nodes: u64,
 ) -> PartStep
-    requires { (level ≤ top_of q) × Known image.now q level node × (leaf_bit node.flags ≡ 1 → ⊥) × (node_at q.keys.reader image.now m.block ≡ got m) }
+    requires { (level ≤ top_of q) × Known image.now q level node × (leaf_bit node.flags ≡ 1 → ⊥) × (node_at q.keys.reader image.now m.block ≡ Ok m) }
     ensures { Makes image.now q result (onward image.now q level node next c) (child image.now q level m (onward image.now q level node next c) nodes) }
 {
     if level == 0 {

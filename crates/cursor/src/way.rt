@@ -11,7 +11,7 @@ use crate::steps::{Reached, Step, first, next, whole};
 use crate::walk::{InPart, walk_from};
 use arith::tick;
 use btree::{InLeaf, Search, Turn, next_child, next_in, stays};
-use node::{Node, Parsed};
+use node::Node;
 
 // A node, the entry at which it is begun, its level, what is left above it, and the nodes gone through.
 #[derive(Clone, Copy)]
@@ -98,8 +98,8 @@ fn stays_on(image: &[u8], q: Search, c: Path, level: u16) -> bool
         l += 1;
         let k = mark_of(c, l);
         match node_on(image, q, l, k.block) {
-            Parsed::No(_) => return false,
-            Parsed::Got(m) => {
+            Err(_) => return false,
+            Ok(m) => {
                 if !stays(image, q, m, k.next) {
                     return false;
                 }

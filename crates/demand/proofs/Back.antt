@@ -4,7 +4,7 @@ use mathlib.Core.Path.{◌≡◌, refl, sym, ap, subst, ◌∙◌}
 use mathlib.Core.List.{List, [], ◌∷◌, map, head-eq_of_cons-eq, tail-eq_of_cons-eq}
 use native.Mathlib.Omega.{arith}
 use lib.ListN.{length}
-use Rattle.error.specs.Answer.{Answer, got}
+use Rattle.error.specs.Answer.{Answer, Ok}
 use Rattle.error.proofs.Laws.{at_most_lem}
 use Rattle.lines.specs.Shown.{InodeShown, EntryShown, AttributeShown, Contents, packed, plain}
 use Rattle.demand.specs.Trace.{done, Trace, ◌then◌, reading, within}
@@ -56,7 +56,7 @@ ends_then : (t u : Trace) → t.ended ≡ done → u.ended ≡ done → (t then 
 unfolding ◌then◌
 ends_then t u p q = rw p q
 
-ends_reading : {A : Type 0} (a : Answer A) (f : A → Trace) (x : A) → a ≡ got x → (f x).ended ≡ done → (reading a f).ended ≡ done
+ends_reading : {A : Type 0} (a : Answer A) (f : A → Trace) (x : A) → a ≡ Ok x → (f x).ended ≡ done → (reading a f).ended ≡ done
 unfolding reading
 ends_reading a f x p q = rw p q
 
@@ -90,10 +90,10 @@ unfolding trace footed
 trace_end v t p h = ends_then _ _ (ends_then _ _ refl (node_end v t 2 levels p h)) refl
 
 pub shown_listed : (v : View) (t : Tree) (room : ℕ) → Shows v 2 t → depth_of t < levels → length (of_volume v.rule v.label t) ≤ room
-    → listing v room ≡ got (of_volume v.rule v.label t)
+    → listing v room ≡ Ok (of_volume v.rule v.label t)
 unfolding listing within
 shown_listed v t room p h fits =
     let e : (trace v).ended ≡ done = trace_end v t p h in
     let a = trace_done v {s = (trace v).text} (λ i. record { text = (trace v).text; ended = e i }) in
     let s : (trace v).text ≡ of_volume v.rule v.label t = a.text ∙ ap (of_volume v.rule v.label) (tree_one v a.tree t 2 a.shows p) in
-    sym (at_most_lem (length (trace v).text) room _ _ (got (of_volume v.rule v.label t)) (rw s fits) (rw (e, s)))
+    sym (at_most_lem (length (trace v).text) room _ _ (Ok (of_volume v.rule v.label t)) (rw s fits) (rw (e, s)))

@@ -7,7 +7,7 @@ use mathlib.Core.List.{List}
 use native.Mathlib.Omega.{arith}
 use lib.ListN.{length}
 use lib.Seq.{take_all}
-use Rattle.error.specs.Answer.{got}
+use Rattle.error.specs.Answer.{Ok}
 use Rattle.lines.specs.Shown.{InodeShown, EntryShown, AttributeShown, Contents, packed, plain}
 use Rattle.demand.specs.View.{View}
 use Rattle.demand.specs.Listing.{listing}
@@ -19,7 +19,7 @@ use Rattle.demand.proofs.Views.{listings_same}
 
 module _ (most : ℕ) where
   pub record Short (v : View) : Type 0 where
-    pub short : (i : ℕ) (f : InodeShown) (bs : List ℕ) → v.inode i ≡ got f → v.contents f.id ≡ got bs → length bs ≤ most
+    pub short : (i : ℕ) (f : InodeShown) (bs : List ℕ) → v.inode i ≡ Ok f → v.contents f.id ≡ Ok bs → length bs ≤ most
 
   abbrev Fits : Contents → Type 0
   Fits packed = Unit
@@ -60,7 +60,7 @@ module _ (most : ℕ) where
   agree_to v w m n (past p q) = past_to p q
   agree_to v w m n (on f p q e a r) = on_to f p q e a (λ off len h k. r off len)
 
-  pub listings_same_to : (v w : View) (m n : ℕ) (t u : List ℕ) → Reads v → Reads w → Short v → Short w → listing v m ≡ got t → listing w n ≡ got u → (t ≡ u) ↔ SameTo most v w
+  pub listings_same_to : (v w : View) (m n : ℕ) (t u : List ℕ) → Reads v → Reads w → Short v → Short w → listing v m ≡ Ok t → listing w n ≡ Ok u → (t ≡ u) ↔ SameTo most v w
   listings_same_to v w m n t u rv rw' sv sw p q =
       let a = listing_done v m p in
       let b = listing_done w n q in

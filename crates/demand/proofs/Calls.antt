@@ -2,7 +2,7 @@
 use Prim.Native.Nat.{ℕ}
 use mathlib.Core.Path.{◌≡◌, ap}
 use mathlib.Core.List.{List, map}
-use Rattle.error.specs.Answer.{Answer, got, ◌>>=◌}
+use Rattle.error.specs.Answer.{Answer, Ok, ◌>>=◌}
 use Rattle.volume.specs.declared.Volume.{Volume}
 use Rattle.records.specs.declared.attribute.Attribute.{Attribute}
 use Rattle.records.specs.declared.directory.Entry.{Entry}
@@ -15,23 +15,23 @@ use Rattle.demand.specs.Demand.{with_contents, inode_answer, entries_answer, att
 use Rattle.demand.proofs.Counts.{inode_even, entries_even, attributes_even, contents_even, read_even, whole_even}
 
 module _ (image : List ℕ) (v : Volume) where
-  pub inode_answer_lem : (id s : ℕ) → ((inode_of image v id s).answer >>= λ i. got (inode_shown v.reader image i)) ≡ inode_answer image v id
+  pub inode_answer_lem : (id s : ℕ) → ((inode_of image v id s).answer >>= λ i. Ok (inode_shown v.reader image i)) ≡ inode_answer image v id
   unfolding inode_answer
-  inode_answer_lem id s = ap (λ (a : Answer Inode). a >>= λ i. got (inode_shown v.reader image i)) (inode_even image v id s 0)
+  inode_answer_lem id s = ap (λ (a : Answer Inode). a >>= λ i. Ok (inode_shown v.reader image i)) (inode_even image v id s 0)
 
-  pub entries_answer_lem : (id s : ℕ) → ((entries_of image v id s).answer >>= λ es. got (map (entry_shown v.reader image) es)) ≡ entries_answer image v id
+  pub entries_answer_lem : (id s : ℕ) → ((entries_of image v id s).answer >>= λ es. Ok (map (entry_shown v.reader image) es)) ≡ entries_answer image v id
   unfolding entries_answer
-  entries_answer_lem id s = ap (λ (a : Answer (List Entry)). a >>= λ es. got (map (entry_shown v.reader image) es)) (entries_even image v id s 0)
+  entries_answer_lem id s = ap (λ (a : Answer (List Entry)). a >>= λ es. Ok (map (entry_shown v.reader image) es)) (entries_even image v id s 0)
 
-  pub attributes_answer_lem : (id s : ℕ) → ((attributes_of image v id s).answer >>= λ l. got (map (with_contents image v) l)) ≡ attributes_answer image v id
+  pub attributes_answer_lem : (id s : ℕ) → ((attributes_of image v id s).answer >>= λ l. Ok (map (with_contents image v) l)) ≡ attributes_answer image v id
   unfolding attributes_answer
-  attributes_answer_lem id s = ap (λ (a : Answer (List Attribute)). a >>= λ l. got (map (with_contents image v) l)) (attributes_even image v id s 0)
+  attributes_answer_lem id s = ap (λ (a : Answer (List Attribute)). a >>= λ l. Ok (map (with_contents image v) l)) (attributes_even image v id s 0)
 
   pub contents_answer_lem : (a : Attribute) (s : ℕ) → attribute_shown v.reader image a (contents_of image v a s).answer ≡ with_contents image v a
   contents_answer_lem a s = ap (λ (c : Answer (List ℕ)). attribute_shown v.reader image a c) (contents_even image v a s 0)
 
   -- of an inode that was read by its id
-  module _ (id s : ℕ) (i : Inode) (found : (inode_of image v id s).answer ≡ got i) where
+  module _ (id s : ℕ) (i : Inode) (found : (inode_of image v id s).answer ≡ Ok i) where
     pub read_answer_lem : (off len t : ℕ) → (read_file image v i off len t).answer ≡ read_answer image v id off len
     unfolding read_answer
     read_answer_lem off len t = rw (← inode_even image v id s 0, found) (read_even image v i off len t 0)

@@ -4,7 +4,7 @@ use Prim.Native.Nat.{ℕ, zero, suc, ◌+◌, ◌-◌, ◌*◌, ◌/◌, ◌%◌
 use mathlib.Core.Path.{◌≡◌, refl, ap, ◌∙◌, subst}
 use mathlib.Core.Bool.{Bool, true, false, cond, not}
 use mathlib.Core.List.{List, [], ◌∷◌, ◌++◌, tail}
-use mathlib.Core.Option.{Option, none, some}
+use Rattle.std.specs.Prelude.{Option, None, Some}
 use native.Mathlib.Omega.{arith}
 use native.Mathlib.Nat.{div-add-mod'}
 use lib.ListN.{get_or}
@@ -91,13 +91,13 @@ abbrev pub int : Code ℤ
 int = record { put = signed; get = λ x. read_int (read_num 0 x).0 (read_num 0 x).1; back = int_back; after = signed_append }
 
 pub read_two : ℕ → List ℕ → Option (ℕ × ℕ) × List ℕ
-read_two n [] = (none, [])
-read_two n (c ∷ x) = cond (ltb c 45) (some (n, (read_num 0 x).0), (read_num 0 x).1) (none, x)
+read_two n [] = (None, [])
+read_two n (c ∷ x) = cond (ltb c 45) (Some (n, (read_num 0 x).0), (read_num 0 x).1) (None, x)
 
 pub two_back : (o : Option (ℕ × ℕ)) (x : List ℕ) → Stop x → read_two (read_num 0 (two? o x)).0 (read_num 0 (two? o x)).1 ≡ (o, x)
 unfolding read_num read_two
-two_back none x h = refl
-two_back (some p) x h = rw (num_back p.0 (44 ∷ digits p.1 x) tt, num_back)
+two_back None x h = refl
+two_back (Some p) x h = rw (num_back p.0 (44 ∷ digits p.1 x) tt, num_back)
 
 abbrev pub two : Code (Option (ℕ × ℕ))
 two = record { put = two?; get = λ x. read_two (read_num 0 x).0 (read_num 0 x).1; back = two_back; after = two?_append }
@@ -136,13 +136,13 @@ abbrev pub hex : Code (List ℕ)
 hex = record { put = bytes; get = λ x. read_hex (tail x); back = hex_back; after = bytes_append }
 
 pub read_name : List ℕ → Option (List ℕ) × List ℕ
-read_name [] = (none, [])
-read_name (c ∷ x) = cond (ltb c 46) (none, x) (some (read_hex x).0, (read_hex x).1)
+read_name [] = (None, [])
+read_name (c ∷ x) = cond (ltb c 46) (None, x) (Some (read_hex x).0, (read_hex x).1)
 
 pub name_back : (o : Option (List ℕ)) (x : List ℕ) → Stop x → read_name (bytes? o x) ≡ (o, x)
 unfolding read_name
-name_back none x h = refl
-name_back (some bs) x h = rw hex_back
+name_back None x h = refl
+name_back (Some bs) x h = rw hex_back
 
 abbrev pub name : Code (Option (List ℕ))
 name = record { put = bytes?; get = read_name; back = name_back; after = bytes?_append }

@@ -4,8 +4,9 @@ use mathlib.Core.Path.{◌≡◌, refl, sym, ap, ◌∙◌}
 use mathlib.Core.Bool.{Bool, true, false}
 use mathlib.Core.List.{List, ◌∷◌}
 use lib.Dec.{eqb}
-use Rattle.error.specs.Answer.{Answer, got, no, ◌>>=◌, pick, if_eq}
-use Rattle.lookup.specs.Counted.{Counted, after, from, onto}
+use Rattle.error.specs.Answer.{Answer, Ok, Err, ◌>>=◌, pick, if_eq}
+use Rattle.lookup.specs.declared.counted.Counted.{Counted}
+use Rattle.lookup.specs.Counted.{after, from, onto}
 use Rattle.btree.specs.Scan.{Part, through, gives, passed, ended, failed, tree_part, Run, more, end, refused, counted_part, scan_of, nth}
 use Rattle.btree.specs.declared.entries.Search.{Search}
 use Rattle.node.specs.declared.place.Place.{Place}
@@ -42,8 +43,8 @@ abbrev said : {A : Type 0} → Counted A → Answer A
 said c = c.answer
 
 from_even : {A B : Type 0} (a : Answer A) (f g : A → Counted B) (s t : ℕ) → ((x : A) → (f x).answer ≡ (g x).answer) → (from s a f).answer ≡ (from t a g).answer
-from_even (got x) f g s t h = h x
-from_even (no e) f g s t h = refl
+from_even (Ok x) f g s t h = h x
+from_even (Err e) f g s t h = refl
 
 onto_even : {A B : Type 0} (f : A → ℕ → Counted B) (c d : Counted A) → c.answer ≡ d.answer → ((x : A) (s t : ℕ) → (f x s).answer ≡ (f x t).answer)
     → (onto c f).answer ≡ (onto d f).answer
@@ -60,8 +61,8 @@ pub onto_answer : {A B : Type 0} (f : A → ℕ → Counted B) (g : A → Answer
 onto_answer {A} f g c a p h = rw p (of a)
   where
     of : (a : Answer A) → (from c.nodes a λ x. f x c.nodes).answer ≡ (a >>= g)
-    of (got x) = h x c.nodes
-    of (no e) = refl
+    of (Ok x) = h x c.nodes
+    of (Err e) = refl
 
 -- ---- a run, its counts left out
 
@@ -87,7 +88,7 @@ scan_even b q s t = part_even (tree_part b q) s t
 
 list_bare : {A : Type 0} (f : Place → Answer A) (r : Run) → (list_of f r).answer ≡ (list_of f (bare r)).answer
 unfolding list_of bare
-list_bare f (more p s r) = from_even (f p) _ _ s 0 (λ x. told_even (λ xs. got (x ∷ xs)) (list_of f r) (list_of f (bare r)) (list_bare f r))
+list_bare f (more p s r) = from_even (f p) _ _ s 0 (λ x. told_even (λ xs. Ok (x ∷ xs)) (list_of f r) (list_of f (bare r)) (list_bare f r))
 list_bare f (end s) = refl
 list_bare f (refused e s) = refl
 

@@ -5,7 +5,7 @@ use mathlib.Core.Logic.{◌⊎◌, inl, inr}
 use mathlib.Core.Bool.{true}
 use mathlib.Core.List.{List, [], ◌∷◌, map}
 use native.Mathlib.Omega.{arith}
-use Rattle.error.specs.Answer.{Answer, got, ◌>>=◌}
+use Rattle.error.specs.Answer.{Answer, Ok, ◌>>=◌}
 use Rattle.error.proofs.Laws.{got_is, bound}
 use Rattle.byte_fields.specs.Part.{part_of}
 use Rattle.volume.specs.Open.{volume_of_image}
@@ -29,8 +29,8 @@ use Rattle.demand.proofs.Parts.{listing_of_view, lookup_of_view, opened_part}
 -- what is known where a listing was not refused: the volume was opened, and the listing is that of its view
 record Listed (view : List ℕ → Which → Answer View) (image : List ℕ) (index : Which) (room : ℕ) (t : List ℕ) : Type 0 where
   it : View
-  opened : view image index ≡ got it
-  lists : listing it room ≡ got t
+  opened : view image index ≡ Ok it
+  lists : listing it room ≡ Ok t
 
 all_answered : (l : List (AttributeShown (List ℕ))) → AllAnswered (map heard l)
 all_answered [] = tt
@@ -45,16 +45,16 @@ ends_unrefused v m (ends_past h k) = past_end h
 ends_unrefused v m (ends_on i f l d es s s' h k) =
     at_inode f h (es, s.entries) (map heard l) s.attributes (all_answered l) (contents_answered v f d s.contents)
 
-no_refusal : (v : View) (m : ℕ) (t : List ℕ) → listing v m ≡ got t → (c : List ℕ) → Unrefused v (chain v c)
+no_refusal : (v : View) (m : ℕ) (t : List ℕ) → listing v m ≡ Ok t → (c : List ℕ) → Unrefused v (chain v c)
 no_refusal v m t p c = let a = listing_done v m p in ends_unrefused v (chain v c) (ends v v c 2 a.tree a.shows a.shows)
 
 -- the listing of what is answered meets the demand wherever the law of file reads holds, and lookups go by what is answered
 module _ (view : List ℕ → Which → Answer View) (find : List ℕ → Which → List ℕ → Answer InodeShown) (lister : Lister)
     (lists : (image : List ℕ) (index : Which) (room : ℕ) → lister image index room ≡ (view image index >>= λ v. listing v room))
     (finds : (image : List ℕ) (index : Which) (path : List ℕ) → find image index path ≡ (view image index >>= λ v. lookup v path))
-    (reads : (image : List ℕ) (index : Which) (v : View) → view image index ≡ got v → Reads v)
-    (short : (image : List ℕ) (index : Which) (v : View) → view image index ≡ got v → Bytes image → Short (2 ^ 64 - 1) v) where
-  listed : (image : List ℕ) (index : Which) (room : ℕ) (t : List ℕ) → lister image index room ≡ got t → Listed view image index room t
+    (reads : (image : List ℕ) (index : Which) (v : View) → view image index ≡ Ok v → Reads v)
+    (short : (image : List ℕ) (index : Which) (v : View) → view image index ≡ Ok v → Bytes image → Short (2 ^ 64 - 1) v) where
+  listed : (image : List ℕ) (index : Which) (room : ℕ) (t : List ℕ) → lister image index room ≡ Ok t → Listed view image index room t
   listed image index room t e =
       let a = bound (view image index) (λ v. listing v room) t (sym (lists image index room) ∙ e) in
       record { it = a.0; opened = a.1.0; lists = a.1.1 }
@@ -80,11 +80,11 @@ module _ (view : List ℕ → Which → Answer View) (find : List ℕ → Which 
   }
 
 -- of a part
-module _ (part : List ℕ) (index : Which) (v : View) (h : view_of_part part index ≡ got v) where
-  opened_volume : (w : Volume) × (((volume_of_image part index).answer ≡ got w) × (view_of part w ≡ v))
+module _ (part : List ℕ) (index : Which) (v : View) (h : view_of_part part index ≡ Ok v) where
+  opened_volume : (w : Volume) × (((volume_of_image part index).answer ≡ Ok w) × (view_of part w ≡ v))
   unfolding view_of_part
   opened_volume =
-      let b = bound (volume_of_image part index).answer (λ w. got (view_of part w)) v h in
+      let b = bound (volume_of_image part index).answer (λ w. Ok (view_of part w)) v h in
       (b.0, (b.1.0, got_is _ v b.1.1))
 
   opened_reads : Reads v

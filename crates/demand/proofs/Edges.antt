@@ -6,7 +6,7 @@ use mathlib.Core.List.{List, [], ◌∷◌}
 use native.Mathlib.Omega.{arith}
 use lib.ListN.{take, drop}
 use lib.Seq.{take-nil, drop-nil}
-use Rattle.error.specs.Answer.{Answer, got, no, if_le, if_eq}
+use Rattle.error.specs.Answer.{Answer, Ok, Err, if_le, if_eq}
 use Rattle.error.specs.declared.Refusal.TheVariants.{Corrupt, Unsupported}
 use Rattle.text.specs.Words.{ascii, places, digits, signed, pairs}
 use Rattle.lines.specs.Shown.{InodeShown}
@@ -24,9 +24,9 @@ abbrev lone : ℕ → Answer (List ℕ) → Answer (List ℕ) → View
 lone bsd contents read = record {
   label = [];
   rule = record { case_insensitive = false; normalization_insensitive = false };
-  inode = λ i. got (small_inode bsd i);
-  entries = λ i. got [];
-  attributes = λ i. got [];
+  inode = λ i. Ok (small_inode bsd i);
+  entries = λ i. Ok [];
+  attributes = λ i. Ok [];
   contents = λ i. contents;
   read = λ i off len. read;
 }
@@ -43,12 +43,12 @@ lone_same bsd c d r = record { label = refl; rule = refl; chains = go }
 -- 1. Both listings must be without refusal. An empty file whose extents overlap: it reads as any empty file, the volumes are the same,
 -- the law of reads holds of both, and one is listed and the other refused.
 abbrev clean : View
-clean = lone 0 (got []) (got [])
+clean = lone 0 (Ok []) (Ok [])
 
 abbrev tangled : View
-tangled = lone 0 (no Corrupt) (got [])
+tangled = lone 0 (Err Corrupt) (Ok [])
 
-pub unpacked : (i : ℕ) (f : InodeShown) → got (small_inode 0 i) ≡ got f → is_packed f ≡ true → ⊥
+pub unpacked : (i : ℕ) (f : InodeShown) → ◌≡◌ {A = Answer _} (Ok (small_inode 0 i)) (Ok f) → is_packed f ≡ true → ⊥
 unpacked i f h p =
     let e : small_inode 0 i ≡ f = cc in
     let k : false ≡ true = ap (λ (g : InodeShown). is_packed g) e ∙ p in
@@ -63,29 +63,29 @@ clean_reads = record {
 tangled_reads : Reads tangled
 tangled_reads = record {
   of_packed = λ i f h p off len. absurd (unpacked i f h p);
-  of_plain = λ i f bs h p q off len. let z : ◌≡◌ {A = Answer (List ℕ)} (got []) (got (take len (drop off bs))) = cc in z;
+  of_plain = λ i f bs h p q off len. let z : ◌≡◌ {A = Answer (List ℕ)} (Ok []) (Ok (take len (drop off bs))) = cc in z;
 }
 
 clean_tangled : Same clean tangled
-clean_tangled = lone_same 0 (got []) (no Corrupt) (got [])
+clean_tangled = lone_same 0 (Ok []) (Err Corrupt) (Ok [])
 
-clean_listed : listing clean 65_536 ≡ got (ascii "(volume 0 0 x\n(node 2 1 2 0 0 0 0 0 0 0 0 0 16877 - -\n(data x)\n)\n(total 1 0 0)\n)\n" [])
+clean_listed : listing clean 65_536 ≡ Ok (ascii "(volume 0 0 x\n(node 2 1 2 0 0 0 0 0 0 0 0 0 16877 - -\n(data x)\n)\n(total 1 0 0)\n)\n" [])
 unfolding listing within if_le trace node_form attribute_lines data_line entry_forms reading ◌then◌ volume_line node_line contents_line total_line close footed totals_of lines_of all_lines line_totals begins if_eq signed digits places pairs
 clean_listed = refl
 
-tangled_refused : listing tangled 65_536 ≡ no Corrupt
+tangled_refused : listing tangled 65_536 ≡ Err Corrupt
 unfolding listing within if_le trace node_form attribute_lines data_line entry_forms reading ◌then◌ volume_line node_line contents_line total_line close footed totals_of lines_of all_lines line_totals begins if_eq signed digits places pairs
 tangled_refused = refl
 
 -- 2. A packed file must read as 3 throughout. If it read as its bytes, equal listings could be of volumes that are not the same.
 abbrev packed_as : ℕ → View
-packed_as b = lone 32 (no Unsupported) (got (b ∷ []))
+packed_as b = lone 32 (Err Unsupported) (Ok (b ∷ []))
 
 packed_listings : listing (packed_as 0) 65_536 ≡ listing (packed_as 1) 65_536
 unfolding listing within if_le trace node_form attribute_lines data_line entry_forms reading ◌then◌ volume_line node_line contents_line total_line close footed totals_of lines_of all_lines line_totals begins if_eq signed digits places pairs
 packed_listings = refl
 
-packed_listed : listing (packed_as 0) 65_536 ≡ got (ascii "(volume 0 0 x\n(node 2 1 2 0 0 0 0 0 0 32 0 0 16877 - -\n(packed)\n)\n(total 1 0 0)\n)\n" [])
+packed_listed : listing (packed_as 0) 65_536 ≡ Ok (ascii "(volume 0 0 x\n(node 2 1 2 0 0 0 0 0 0 32 0 0 16877 - -\n(packed)\n)\n(total 1 0 0)\n)\n" [])
 unfolding listing within if_le trace node_form attribute_lines data_line entry_forms reading ◌then◌ volume_line node_line contents_line total_line close footed totals_of lines_of all_lines line_totals begins if_eq signed digits places pairs
 packed_listed = refl
 

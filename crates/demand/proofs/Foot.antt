@@ -2,7 +2,7 @@
 use Prim.Native.Nat.{ℕ}
 use mathlib.Core.Path.{◌≡◌, sym, ap, ◌∙◌}
 use mathlib.Core.List.{List, []}
-use Rattle.error.specs.Answer.{got}
+use Rattle.error.specs.Answer.{Ok}
 use Rattle.error.proofs.Laws.{bound}
 use Rattle.volume.specs.declared.Which.{Which}
 use Rattle.lines.specs.Lines.{volume_line}
@@ -25,8 +25,8 @@ totalled v t a = record {
       ∙ ap (λ (z : Totals). volume_line (v.rule).case_insensitive (v.rule).normalization_insensitive v.label (of_tree a.tree (foot_lines z))) (totals_tree _ _ v.label a.tree);
 }
 
-module _ (image : List ℕ) (w : Which) (room : ℕ) (t : List ℕ) (h : listing_of image w room ≡ got t) where
-  listed : (v : View) × ((view_at image w ≡ got v) × (listing v room ≡ got t))
+module _ (image : List ℕ) (w : Which) (room : ℕ) (t : List ℕ) (h : listing_of image w room ≡ Ok t) where
+  listed : (v : View) × ((view_at image w ≡ Ok v) × (listing v room ≡ Ok t))
   listed = bound (view_at image w) (λ v. listing v room) t (sym (listing_of_view image w room) ∙ h)
 
 pub totals_at_foot : TotalsAtFoot

@@ -6,7 +6,7 @@ use mathlib.Core.List.{List, [], ◌∷◌}
 use native.Mathlib.Omega.{arith}
 use lib.Dec.{eqb}
 use lib.ListN.{length}
-use Rattle.error.specs.Answer.{Answer, got, if_eq}
+use Rattle.error.specs.Answer.{Answer, Ok, if_eq}
 use Rattle.error.proofs.Laws.{got_is, at_most_lem}
 use Rattle.volume.specs.Open.{latest}
 use Rattle.volume.specs.declared.Which.{Which}
@@ -26,19 +26,19 @@ use Rattle.demand.proofs.Demand.{demand_met}
 use Rattle.demand.proofs.Edges.{unpacked}
 
 -- a text in as much room as it has
-fits : (s : List ℕ) → within (length s) (says s) ≡ got s
+fits : (s : List ℕ) → within (length s) (says s) ≡ Ok s
 unfolding within
 fits s = sym (at_most_lem (length s) (length s) _ _ _ (omega arith) refl)
 
 -- what a lister writes of an image whose volume is opened
 module _ (view : List ℕ → Which → Answer View) (text : List ℕ → View → Trace) (a : List ℕ) (i : Which) (v : View) (s : List ℕ) where
-  written : view a i ≡ got v → text a v ≡ says s → writing text view a i (length s) ≡ got s
+  written : view a i ≡ Ok v → text a v ≡ says s → writing text view a i (length s) ≡ Ok s
   unfolding writing
   written h e = rw (h, e) (fits s)
 
 -- the two ways in which the demand is not met
 module _ (view : List ℕ → Which → Answer View) (find : List ℕ → Which → List ℕ → Answer InodeShown) (text : List ℕ → View → Trace)
-    (a b : List ℕ) (i j : Which) (v w : View) (p : view a i ≡ got v) (q : view b j ≡ got w) (s t : List ℕ) (f : text a v ≡ says s) (g : text b w ≡ says t)
+    (a b : List ℕ) (i j : Which) (v w : View) (p : view a i ≡ Ok v) (q : view b j ≡ Ok w) (s t : List ℕ) (f : text a v ≡ says s) (g : text b w ≡ says t)
     (d : DemandOn view find (writing text view)) where
   same_by_demand : s ≡ t → Same v w
   same_by_demand e = rw (p, q) at ((d.listings a b i j (length s) (length t) s t (written view text a i v s p f) (written view text b j w t q g)).0 e)

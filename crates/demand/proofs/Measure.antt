@@ -5,7 +5,7 @@ use mathlib.Core.Logic.{◌⊎◌, inl, inr}
 use mathlib.Core.List.{List}
 use native.Mathlib.Omega.{arith}
 use lib.ListN.{length}
-use Rattle.error.specs.Answer.{Answer, got, no, ◌>>=◌, number_of, if_eq}
+use Rattle.error.specs.Answer.{Answer, Ok, Err, ◌>>=◌, number_of, if_eq}
 use Rattle.error.specs.declared.Refusal.{Refusal}
 use Rattle.error.specs.declared.Refusal.TheVariants.{BufferTooShort, TooLong}
 use Rattle.error.proofs.Laws.{at_most_lem, above, other, le_cases, eq_cases, bound}
@@ -40,7 +40,7 @@ mutual
 -- ---- of a trace: a text in any room
 
 module _ (t : Trace) where
-  short : (room : ℕ) → room < length t.text → within room t ≡ no BufferTooShort
+  short : (room : ℕ) → room < length t.text → within room t ≡ Err BufferTooShort
   unfolding within
   short room h = sym (above _ _ _ _ _ h refl)
 
@@ -49,61 +49,61 @@ module _ (t : Trace) where
   enough room h = sym (at_most_lem _ _ _ _ _ h refl)
 
   -- a fault that is met in one room, and is no want of it, ended the trace; and it is met in any room that is not too short
-  stops : (room : ℕ) (e : Refusal) → (number_of e ≡ 6 → ⊥) → within room t ≡ no e → t.ended ≡ stop e
+  stops : (room : ℕ) (e : Refusal) → (number_of e ≡ 6 → ⊥) → within room t ≡ Err e → t.ended ≡ stop e
   unfolding within
   stops room e k =
-      le_cases (λ (a : Answer (List ℕ)). a ≡ no e → t.ended ≡ stop e) (λ h. of t.ended)
+      le_cases (λ (a : Answer (List ℕ)). a ≡ Err e → t.ended ≡ stop e) (λ h. of t.ended)
       (λ h q. let s : BufferTooShort ≡ e = cc in absurd (k (ap number_of (sym s))))
     where
-      of : (x : End) → text_or t.text x ≡ no e → x ≡ stop e
+      of : (x : End) → text_or t.text x ≡ Err e → x ≡ stop e
       of done q = let z : ◌≡◌ {A = ℕ} 0 1 = cc in absurd (omega arith)
       of (stop w) q = let s : w ≡ e = cc in ap stop s
 
-  stopped : (room : ℕ) (e : Refusal) → t.ended ≡ stop e → (within room t ≡ no e) ⊎ (within room t ≡ no BufferTooShort)
+  stopped : (room : ℕ) (e : Refusal) → t.ended ≡ stop e → (within room t ≡ Err e) ⊎ (within room t ≡ Err BufferTooShort)
   unfolding within
-  stopped room e h = le_cases (λ (a : Answer (List ℕ)). (a ≡ no e) ⊎ (a ≡ no BufferTooShort)) (λ k. inl (ap (text_or t.text) h)) (λ k. inr refl)
+  stopped room e h = le_cases (λ (a : Answer (List ℕ)). (a ≡ Err e) ⊎ (a ≡ Err BufferTooShort)) (λ k. inl (ap (text_or t.text) h)) (λ k. inr refl)
 
 -- ---- of a view
 
 -- what is known where a measurement was got
 record Told (t : Answer (List ℕ)) (depth : ℕ) (m : Measure) : Type 0 where
   text : List ℕ
-  listed : t ≡ got text
+  listed : t ≡ Ok text
   it : m ≡ record { length = length text; depth = depth }
 
-told_got : (a : Answer (List ℕ)) (depth : ℕ) (m : Measure) → of_listing depth a ≡ got m → Told a depth m
-told_got (got t) depth m = λ h. record { text = t; listed = refl; it = cc }
-told_got (no e) depth m =
-    eq_cases (λ b. b ≡ got m → Told (no e) depth m) (λ k h. let z : ◌≡◌ {A = ℕ} 0 1 = cc in absurd (omega arith)) (λ k h. let z : ◌≡◌ {A = ℕ} 0 1 = cc in absurd (omega arith))
+told_got : (a : Answer (List ℕ)) (depth : ℕ) (m : Measure) → of_listing depth a ≡ Ok m → Told a depth m
+told_got (Ok t) depth m = λ h. record { text = t; listed = refl; it = cc }
+told_got (Err e) depth m =
+    eq_cases (λ b. b ≡ Ok m → Told (Err e) depth m) (λ k h. let z : ◌≡◌ {A = ℕ} 0 1 = cc in absurd (omega arith)) (λ k h. let z : ◌≡◌ {A = ℕ} 0 1 = cc in absurd (omega arith))
 
-told_no : (a : Answer (List ℕ)) (depth : ℕ) (e : Refusal) → (e ≡ TooLong → ⊥) → of_listing depth a ≡ no e → (a ≡ no e) × (number_of e ≡ 6 → ⊥)
-told_no (got t) depth e k = λ h. let z : ◌≡◌ {A = ℕ} 0 1 = cc in absurd (omega arith)
-told_no (no w) depth e k =
-    eq_cases (λ b. b ≡ no e → (◌≡◌ {A = Answer (List ℕ)} (no w) (no e)) × (number_of e ≡ 6 → ⊥)) (λ s h. absurd (k (cc)))
-    (λ s h. let q : w ≡ e = cc in (ap no q, λ z. s (ap number_of q ∙ z)))
+told_no : (a : Answer (List ℕ)) (depth : ℕ) (e : Refusal) → (e ≡ TooLong → ⊥) → of_listing depth a ≡ Err e → (a ≡ Err e) × (number_of e ≡ 6 → ⊥)
+told_no (Ok t) depth e k = λ h. let z : ◌≡◌ {A = ℕ} 0 1 = cc in absurd (omega arith)
+told_no (Err w) depth e k =
+    eq_cases (λ b. b ≡ Err e → (◌≡◌ {A = Answer (List ℕ)} (Err w) (Err e)) × (number_of e ≡ 6 → ⊥)) (λ s h. absurd (k (cc)))
+    (λ s h. let q : w ≡ e = cc in (ap Err q, λ z. s (ap number_of q ∙ z)))
 
 module _ (v : View) where
   by_listing : (a : Answer (List ℕ)) → within most (trace v) ≡ a → measured v ≡ of_listing (deepest v levels 2) a
   unfolding measured listing
   by_listing a h = ap (of_listing (deepest v levels 2)) h
 
-  pub view_got : (m : Measure) → measured v ≡ got m → (t : List ℕ) × ((trace v ≡ says t) × (m ≡ record { length = length t; depth = deepest v levels 2 }))
+  pub view_got : (m : Measure) → measured v ≡ Ok m → (t : List ℕ) × ((trace v ≡ says t) × (m ≡ record { length = length t; depth = deepest v levels 2 }))
   view_got m h = let a = told_got _ _ m (sym (by_listing _ refl) ∙ h) in (a.text, (within_done most (trace v) a.text a.listed, a.it))
 
-  pub view_refused : (e : Refusal) → measured v ≡ no e → (e ≡ TooLong → ⊥) → (room : ℕ) → (within room (trace v) ≡ no e) ⊎ (within room (trace v) ≡ no BufferTooShort)
+  pub view_refused : (e : Refusal) → measured v ≡ Err e → (e ≡ TooLong → ⊥) → (room : ℕ) → (within room (trace v) ≡ Err e) ⊎ (within room (trace v) ≡ Err BufferTooShort)
   view_refused e h k room = let a = told_no _ _ e k (sym (by_listing _ refl) ∙ h) in stopped (trace v) room e (stops (trace v) most e a.1 a.0)
 
-  pub view_long : most < length (trace v).text → measured v ≡ no TooLong
+  pub view_long : most < length (trace v).text → measured v ≡ Err TooLong
   unfolding if_eq
   view_long h = by_listing _ (short (trace v) most h)
 
-  pub view_fault : (e : Refusal) → length (trace v).text ≤ most → (trace v).ended ≡ stop e → (number_of e ≡ 6 → ⊥) → measured v ≡ no e
-  view_fault e k h s = by_listing (no e) (enough (trace v) most k ∙ ap (text_or (trace v).text) h) ∙ sym (other _ _ _ _ _ s refl)
+  pub view_fault : (e : Refusal) → length (trace v).text ≤ most → (trace v).ended ≡ stop e → (number_of e ≡ 6 → ⊥) → measured v ≡ Err e
+  view_fault e k h s = by_listing (Err e) (enough (trace v) most k ∙ ap (text_or (trace v).text) h) ∙ sym (other _ _ _ _ _ s refl)
 
-  pub view_listed : (t : List ℕ) → trace v ≡ says t → length t ≤ most → measured v ≡ got (record { length = length t; depth = deepest v levels 2 })
-  view_listed t h k = by_listing (got t) (ap (within most) h ∙ enough (says t) most k)
+  pub view_listed : (t : List ℕ) → trace v ≡ says t → length t ≤ most → measured v ≡ Ok (record { length = length t; depth = deepest v levels 2 })
+  view_listed t h k = by_listing (Ok t) (ap (within most) h ∙ enough (says t) most k)
 
-  pub view_deep : (m : Measure) → measured v ≡ got m → Deep v m.depth
+  pub view_deep : (m : Measure) → measured v ≡ Ok m → Deep v m.depth
   view_deep m h =
       let a = view_got m h in
       let l = trace_done v a.1.0 in
@@ -121,7 +121,7 @@ module _ (image : List ℕ) (w : Which) where
   unfolding listing
   listing_of_trace room = listing_of_view image w room
 
-  module _ (v : View) (h : view_at image w ≡ got v) where
+  module _ (v : View) (h : view_at image w ≡ Ok v) where
     its_measure : measure_of image w ≡ measured v
     its_measure = measure_of_view ∙ ap (◌>>= measured) h
 
@@ -129,21 +129,21 @@ module _ (image : List ℕ) (w : Which) where
     its_listing room = listing_of_trace room ∙ ap (◌>>= λ v. within room (trace v)) h
 
   -- a measurement, and a listing, that was got: the volume was opened
-  from_measure : (m : Measure) → measure_of image w ≡ got m → (v : View) × ((view_at image w ≡ got v) × (measured v ≡ got m))
+  from_measure : (m : Measure) → measure_of image w ≡ Ok m → (v : View) × ((view_at image w ≡ Ok v) × (measured v ≡ Ok m))
   from_measure m h = bound (view_at image w) measured m (sym measure_of_view ∙ h)
 
-  from_listing : (room : ℕ) (t : List ℕ) → listing_of image w room ≡ got t → (v : View) × ((view_at image w ≡ got v) × (trace v ≡ says t))
+  from_listing : (room : ℕ) (t : List ℕ) → listing_of image w room ≡ Ok t → (v : View) × ((view_at image w ≡ Ok v) × (trace v ≡ says t))
   from_listing room t h =
       let b = bound (view_at image w) (λ v. within room (trace v)) t (sym (listing_of_trace room) ∙ h) in
       (b.0, (b.1.0, within_done room (trace b.0) t b.1.1))
 
-  refused_either : (e : Refusal) → measure_of image w ≡ no e → (e ≡ TooLong → ⊥)
-      → (room : ℕ) → (listing_of image w room ≡ no e) ⊎ (listing_of image w room ≡ no BufferTooShort)
+  refused_either : (e : Refusal) → measure_of image w ≡ Err e → (e ≡ TooLong → ⊥)
+      → (room : ℕ) → (listing_of image w room ≡ Err e) ⊎ (listing_of image w room ≡ Err BufferTooShort)
   refused_either e h k room = rw (listing_of_trace room) (of (view_at image w) (sym measure_of_view ∙ h))
     where
-      of : (a : Answer View) → (a >>= measured) ≡ no e → ((a >>= λ v. within room (trace v)) ≡ no e) ⊎ ((a >>= λ v. within room (trace v)) ≡ no BufferTooShort)
-      of (got v) q = view_refused v e q k room
-      of (no d) q = let s : d ≡ e = cc in inl (ap no s)
+      of : (a : Answer View) → (a >>= measured) ≡ Err e → ((a >>= λ v. within room (trace v)) ≡ Err e) ⊎ ((a >>= λ v. within room (trace v)) ≡ Err BufferTooShort)
+      of (Ok v) q = view_refused v e q k room
+      of (Err d) q = let s : d ≡ e = cc in inl (ap Err s)
 
 pub measures : Measures
 measures = record {

@@ -2,7 +2,7 @@
 use Prim.Native.Nat.{ℕ}
 use mathlib.Core.Path.{◌≡◌, refl}
 use mathlib.Core.List.{List}
-use Rattle.error.specs.Answer.{Answer, got, no, ◌>>=◌}
+use Rattle.error.specs.Answer.{Answer, Ok, Err, ◌>>=◌}
 use Rattle.error.proofs.Laws.{bound}
 use Rattle.byte_fields.specs.Part.{part_of}
 use Rattle.byte_fields.specs.declared.Span.{Span}
@@ -20,8 +20,8 @@ pub on_part_lem : {A B : Type 0} (image : List ℕ) (f : List ℕ → Answer A) 
 on_part_lem image f g k h = of (part_of_image image)
   where
     of : (a : Answer Span) → (a >>= λ s. k (part_of image s)) ≡ ((a >>= λ s. f (part_of image s)) >>= g)
-    of (got s) = h (part_of image s)
-    of (no e) = refl
+    of (Ok s) = h (part_of image s)
+    of (Err e) = refl
 
 module _ (image : List ℕ) (index : Which) where
   -- what goes by the view of each part goes by that of the image
@@ -38,6 +38,6 @@ module _ (image : List ℕ) (index : Which) where
   lookup_of_view path = on_view (λ v. lookup v path) (λ p. lookup_of_part p index path) (λ p. lookup_of_part_lem p index path)
 
   -- the part that a volume was opened in
-  pub opened_part : (v : View) → view_at image index ≡ got v → (s : Span) × ((part_of_image image ≡ got s) × (view_of_part (part_of image s) index ≡ got v))
+  pub opened_part : (v : View) → view_at image index ≡ Ok v → (s : Span) × ((part_of_image image ≡ Ok s) × (view_of_part (part_of image s) index ≡ Ok v))
   unfolding view_at
   opened_part v h = bound (part_of_image image) (λ s. view_of_part (part_of image s) index) v h

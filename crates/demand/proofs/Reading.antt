@@ -6,10 +6,11 @@ use mathlib.Core.List.{List}
 use native.Mathlib.Omega.{arith}
 use borrow.Author.Tests.{eqb-true}
 use lib.ListN.{length, take, drop}
-use Rattle.error.specs.Answer.{Answer, got, no}
+use Rattle.error.specs.Answer.{Answer, Ok, Err}
 use Rattle.error.specs.declared.Refusal.TheVariants.{Unsupported}
 use Rattle.error.proofs.Laws.{got_is, eq_cases, bound}
-use Rattle.lookup.specs.Counted.{Counted, after, from}
+use Rattle.lookup.specs.declared.counted.Counted.{Counted}
+use Rattle.lookup.specs.Counted.{after, from}
 use Rattle.volume.specs.declared.Volume.{Volume}
 use Rattle.records.specs.declared.extent.Extent.{Extent}
 use Rattle.inode_record.specs.declared.inode.Inode.{Inode}
@@ -32,10 +33,10 @@ module _ (image : List ℕ) (v : Volume) where
   -- the inode behind what is shown, by the id that is shown
   pub record Behind (f : InodeShown) : Type 0 where
     pub it : Inode
-    pub found : (inode_of image v f.id 0).answer ≡ got it
+    pub found : (inode_of image v f.id 0).answer ≡ Ok it
     pub shown : inode_shown v.reader image it ≡ f
 
-  pub behind : (i : ℕ) (f : InodeShown) → inode_answer image v i ≡ got f → Behind f
+  pub behind : (i : ℕ) (f : InodeShown) → inode_answer image v i ≡ Ok f → Behind f
   unfolding inode_answer inode_shown
   behind i f h =
       let a = bound (inode_of image v i 0).answer _ f h in
@@ -47,34 +48,34 @@ module _ (image : List ℕ) (v : Volume) where
   unfolding inode_shown
   bit_behind f b = ap (λ (g : InodeShown). g.bsd / 32 % 2) b.shown
 
-  read_packed : (i : ℕ) (f : InodeShown) → inode_answer image v i ≡ got f → is_packed f ≡ true → (off len : ℕ) → read_answer image v f.id off len ≡ no Unsupported
+  read_packed : (i : ℕ) (f : InodeShown) → inode_answer image v i ≡ Ok f → is_packed f ≡ true → (off len : ℕ) → read_answer image v f.id off len ≡ Err Unsupported
   unfolding read_answer
   read_packed i f h p off len =
       let b = behind i f h in
       rw b.found (ap (λ (c : Counted (List ℕ)). c.answer) (compressed_read image v b.it 0 (bit_behind f b ∙ eqb-true (f.bsd / 32 % 2) 1 p) off len))
 
-  read_plain_lem : length image ≤ 2 ^ 64 → (i : ℕ) (f : InodeShown) (bs : List ℕ) → inode_answer image v i ≡ got f → contents_answer image v f.id ≡ got bs
-      → (off len : ℕ) → read_answer image v f.id off len ≡ got (take len (drop off bs))
+  read_plain_lem : length image ≤ 2 ^ 64 → (i : ℕ) (f : InodeShown) (bs : List ℕ) → inode_answer image v i ≡ Ok f → contents_answer image v f.id ≡ Ok bs
+      → (off len : ℕ) → read_answer image v f.id off len ≡ Ok (take len (drop off bs))
   unfolding read_answer contents_answer
   read_plain_lem small i f bs h c off len =
       let b = behind i f h in
-      let w : (read_whole image v b.it 0).answer ≡ got bs = rw b.found at c in
+      let w : (read_whole image v b.it 0).answer ≡ Ok bs = rw b.found at c in
       let n : ℕ = (read_whole image v b.it 0).nodes in
       rw b.found (ap (λ (c : Counted (List ℕ)). c.answer) (file_part image v b.it 0 n bs small (λ j. record { nodes = n; answer = w j }) off len))
 
   pub volume_reads : length image ≤ 2 ^ 64 → Reads (view_of image v)
   volume_reads small = record { of_packed = read_packed; of_plain = λ i f bs h p c off len. read_plain_lem small i f bs h c off len }
 
-  pub whole_length : (i : Inode) (bs : List ℕ) → (read_whole image v i 0).answer ≡ got bs → length bs ≡ size_of i
+  pub whole_length : (i : Inode) (bs : List ℕ) → (read_whole image v i 0).answer ≡ Ok bs → length bs ≡ size_of i
   unfolding read_whole read_plain read_all
   whole_length i bs =
-      eq_cases (λ (x : Counted (List ℕ)). x.answer ≡ got bs → length bs ≡ size_of i)
+      eq_cases (λ (x : Counted (List ℕ)). x.answer ≡ Ok bs → length bs ≡ size_of i)
       (λ h e. absurd (let z : ◌≡◌ {A = ℕ} 0 1 = cc in omega arith))
       (λ h e. of (extents_of image v i.ids.private_id 0).nodes (extents_of image v i.ids.private_id 0).answer e)
     where
-      of : (n : ℕ) (a : Answer (List Extent)) → (from n a λ es. after n (read_all (disk_of v.reader image) (size_of i) es)).answer ≡ got bs → length bs ≡ size_of i
-      of n (got es) e = omega (arith, read_length (disk_of v.reader image) (size_of i) es 0 (size_of i) bs (went (apart es) _ _ e).1)
-      of n (no x) e = absurd (let z : ◌≡◌ {A = ℕ} 0 1 = cc in omega arith)
+      of : (n : ℕ) (a : Answer (List Extent)) → (from n a λ es. after n (read_all (disk_of v.reader image) (size_of i) es)).answer ≡ Ok bs → length bs ≡ size_of i
+      of n (Ok es) e = omega (arith, read_length (disk_of v.reader image) (size_of i) es 0 (size_of i) bs (went (apart es) _ _ e).1)
+      of n (Err x) e = absurd (let z : ◌≡◌ {A = ℕ} 0 1 = cc in omega arith)
 
   pub volume_short : Bytes image → Short (2 ^ 64 - 1) (view_of image v)
   unfolding contents_answer

@@ -4,7 +4,7 @@ use mathlib.Core.Path.{◌≡◌, refl, sym, ap, subst, ◌∙◌}
 use mathlib.Core.Bool.{Bool, true, false}
 use mathlib.Core.List.{List, [], ◌∷◌, ◌++◌, map, append_assoc, append-nil}
 use native.Mathlib.Omega.{arith}
-use Rattle.error.specs.Answer.{Answer, got, no, pick}
+use Rattle.error.specs.Answer.{Answer, Ok, Err, pick}
 use Rattle.error.specs.declared.Refusal.{Refusal}
 use Rattle.error.specs.declared.Refusal.TheVariants.{TooDeep}
 use Rattle.error.proofs.Laws.{le_cases}
@@ -32,19 +32,19 @@ module _ {R : Type 0} where
       go a done p k = then' a u.text p (λ i. record { text = u.text; ended = (k i).ended }) (ap (λ z. z.text) k)
       go a (stop e) p k = stopped e (ap (λ z. z.ended) k)
 
-  pub reading_done : {A : Type 0} (a : Answer A) (f : A → Trace) {s : List ℕ} → reading a f ≡ says s → ((x : A) → a ≡ got x → f x ≡ says s → R) → R
+  pub reading_done : {A : Type 0} (a : Answer A) (f : A → Trace) {s : List ℕ} → reading a f ≡ says s → ((x : A) → a ≡ Ok x → f x ≡ says s → R) → R
   unfolding reading
-  reading_done (got x) f h then' = then' x refl h
-  reading_done (no e) f h then' = stopped e (ap (λ z. z.ended) h)
+  reading_done (Ok x) f h then' = then' x refl h
+  reading_done (Err e) f h then' = stopped e (ap (λ z. z.ended) h)
 
-text_done : (a s : List ℕ) (e : End) → text_or a e ≡ got s → record { text = a; ended = e } ≡ says s
+text_done : (a s : List ℕ) (e : End) → text_or a e ≡ Ok s → record { text = a; ended = e } ≡ says s
 text_done a s done h = let p : a ≡ s = cc in ap says p
 text_done a s (stop e) h = let z : ◌≡◌ {A = ℕ} 0 1 = cc in absurd (omega arith)
 
-pub within_done : (m : ℕ) (t : Trace) (s : List ℕ) → within m t ≡ got s → t ≡ says s
+pub within_done : (m : ℕ) (t : Trace) (s : List ℕ) → within m t ≡ Ok s → t ≡ says s
 unfolding within
 within_done m t s =
-    le_cases (λ (x : Answer (List ℕ)). x ≡ got s → t ≡ says s)
+    le_cases (λ (x : Answer (List ℕ)). x ≡ Ok s → t ≡ says s)
     (λ h k. text_done t.text s t.ended k)
     (λ h k. let z : ◌≡◌ {A = ℕ} 0 1 = cc in absurd (omega arith))
 
@@ -137,7 +137,7 @@ node_done v (suc d) i s h =
     let kids = entries_done v d (node_form v d) (node_done v d) es hz (said close_writes ho) in
     record {
       tree = node f k.list c.it kids.list;
-      shows = (record { inode = hf; attributes = hl ∙ ap got k.those; entries = he ∙ ap got kids.those; contents = c.shows }, kids.shows);
+      shows = (record { inode = hf; attributes = hl ∙ ap Ok k.those; entries = he ∙ ap Ok kids.those; contents = c.shows }, kids.shows);
       low = omega arith;
       text = moved (said (node_writes f) ha next k.text next kids.text) (rw (← e1, ← e2, ← e3, ← e4) (simp append_assoc));
     }
@@ -170,6 +170,6 @@ trace_done v {s} h =
     let last : foot_lines (totals_of a) ≡ b = ap (λ (z : Trace). foot_lines (totals_of z.text)) (sym ha) ∙ ap (λ (z : Trace). z.text) hb in
     record { tree = t.tree; shows = t.shows; low = t.low; text = sym e ∙ ap (a ++◌) (sym last) ∙ ap foot t.text }
 
-pub listing_done : (v : View) (m : ℕ) {s : List ℕ} → listing v m ≡ got s → Listed v s
+pub listing_done : (v : View) (m : ℕ) {s : List ℕ} → listing v m ≡ Ok s → Listed v s
 unfolding listing
 listing_done v m {s} h = trace_done v (within_done m _ s h)

@@ -3,7 +3,7 @@ use Prim.Native.Nat.{ℕ, zero, suc, ◌+◌, ◌-◌, ◌*◌, ◌/◌, ◌%◌
 use mathlib.Core.Path.{◌≡◌, refl, sym, ap, ◌∙◌}
 use mathlib.Core.Bool.{Bool, true, false, cond}
 use mathlib.Core.List.{List, [], ◌∷◌, ◌++◌, append_assoc}
-use mathlib.Core.Option.{Option, none, some}
+use Rattle.std.specs.Prelude.{Option, Some}
 use native.Mathlib.Omega.{arith}
 use native.Mathlib.Nat.{zero-add, add-zero}
 use lib.Dec.{T, eqb, ltb}
@@ -55,12 +55,12 @@ bytes_flat : (b x : List ℕ) → Unbroken x → Unbroken (bytes b x)
 bytes_flat b x h = ((λ e. omega arith), pairs_flat b x h)
 
 bytes?_flat : (b : Option (List ℕ)) (x : List ℕ) → Unbroken x → Unbroken (bytes? b x)
-bytes?_flat Option.none x h = ((λ e. omega arith), h)
-bytes?_flat (some b) x h = bytes_flat b x h
+bytes?_flat Option.None x h = ((λ e. omega arith), h)
+bytes?_flat (Some b) x h = bytes_flat b x h
 
 two?_flat : (s : Option (ℕ × ℕ)) (x : List ℕ) → Unbroken x → Unbroken (two? s x)
-two?_flat Option.none x h = ((λ e. omega arith), h)
-two?_flat (some p) x h = digits_flat p.0 _ ((λ e. omega arith), digits_flat p.1 x h)
+two?_flat Option.None x h = ((λ e. omega arith), h)
+two?_flat (Some p) x h = digits_flat p.0 _ ((λ e. omega arith), digits_flat p.1 x h)
 
 -- a word, and that it has no LF in it
 record Flat : Type 0 where

@@ -4,7 +4,7 @@ use Prim.Native.Nat.{ℕ}
 use mathlib.Core.Path.{◌≡◌, refl, sym, ap, subst, ◌∙◌}
 use mathlib.Core.Logic.{◌↔◌}
 use mathlib.Core.List.{List, [], ◌∷◌, ◌++◌}
-use Rattle.error.specs.Answer.{Answer, got, no, pick}
+use Rattle.error.specs.Answer.{Answer, Ok, Err, pick}
 use Rattle.error.specs.declared.Refusal.TheVariants.{PathNotUtf8}
 use Rattle.utf8.specs.Text.{strict}
 use Rattle.paths.specs.Parts.{parts_of}
@@ -47,20 +47,20 @@ module _ (v w : View) where
       a.text ∙ (λ i. of_volume (s.rule i) (s.label i) (e i)) ∙ sym b.text
 
 -- Any two listings made without refusal are equal exactly where their volumes are the same.
-pub listings_same : (v w : View) (m n : ℕ) (t u : List ℕ) → Reads v → Reads w → listing v m ≡ got t → listing w n ≡ got u → (t ≡ u) ↔ Same v w
+pub listings_same : (v w : View) (m n : ℕ) (t u : List ℕ) → Reads v → Reads w → listing v m ≡ Ok t → listing w n ≡ Ok u → (t ≡ u) ↔ Same v w
 listings_same v w m n t u rv rw' p q =
     let a = listing_done v m p in
     let b = listing_done w n q in
     (same_volumes v w t u rv rw' a b, same_texts v w t u rv rw' a b)
 
 -- Where they are equal, every path, of any bytes, gets the same answer or the same refusal's number.
-pub lookups_same : (v w : View) (m n : ℕ) (t u : List ℕ) → listing v m ≡ got t → listing w n ≡ got u → t ≡ u → (path : List ℕ) → lookup v path ≡ lookup w path
+pub lookups_same : (v w : View) (m n : ℕ) (t u : List ℕ) → listing v m ≡ Ok t → listing w n ≡ Ok u → t ≡ u → (path : List ℕ) → lookup v path ≡ lookup w path
 unfolding lookup
 lookups_same v w m n t u p q h path =
     let a = listing_done v m p in
     let b = listing_done w n q in
     let s = one_tree v w t u a b h in
-    ap (λ (x : Answer InodeShown). pick (strict path) x (no PathNotUtf8)) (descend_same v w s.rule (parts_of path) 2 a.tree a.shows (both_show v w t u a b h))
+    ap (λ (x : Answer InodeShown). pick (strict path) x (Err PathNotUtf8)) (descend_same v w s.rule (parts_of path) 2 a.tree a.shows (both_show v w t u a b h))
 
 -- ---- that the definitions say what they should
 

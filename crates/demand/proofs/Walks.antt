@@ -6,7 +6,7 @@ use mathlib.Core.List.{List, [], ◌∷◌, map, head-eq_of_cons-eq, tail-eq_of_
 use native.Mathlib.Omega.{arith}
 use lib.ListN.{length, take, drop}
 use lib.Seq.{take_all}
-use Rattle.error.specs.Answer.{Answer, got, no, ◌>>=◌, pick}
+use Rattle.error.specs.Answer.{Answer, Ok, Err, ◌>>=◌, pick}
 use Rattle.error.specs.declared.Refusal.{Refusal}
 use Rattle.error.specs.declared.Refusal.TheVariants.{Unsupported, NotFound, CharacterNotCovered}
 use Rattle.utf8.specs.Text.{same_bytes}
@@ -24,15 +24,15 @@ use Rattle.demand.specs.Shows.{heads, heard, ShowsNode, Shows, ShowsAll}
 
 -- what the demand rests on: the law of file reads, of each inode that there is, at every offset and length
 pub record Reads (v : View) : Type 0 where
-  pub of_packed : (i : ℕ) (f : InodeShown) → v.inode i ≡ got f → is_packed f ≡ true → (off len : ℕ) → v.read f.id off len ≡ no Unsupported
-  pub of_plain : (i : ℕ) (f : InodeShown) (bs : List ℕ) → v.inode i ≡ got f → is_packed f ≡ false → v.contents f.id ≡ got bs → (off len : ℕ) → v.read f.id off len ≡ got (take len (drop off bs))
+  pub of_packed : (i : ℕ) (f : InodeShown) → v.inode i ≡ Ok f → is_packed f ≡ true → (off len : ℕ) → v.read f.id off len ≡ Err Unsupported
+  pub of_plain : (i : ℕ) (f : InodeShown) (bs : List ℕ) → v.inode i ≡ Ok f → is_packed f ≡ false → v.contents f.id ≡ Ok bs → (off len : ℕ) → v.read f.id off len ≡ Ok (take len (drop off bs))
 
 -- ---- file reads
 
 -- a read, by the contents alone
 abbrev pub read_of : Contents → ℕ → ℕ → Answer (List ℕ)
-read_of packed off len = no Unsupported
-read_of (plain bs) off len = got (take len (drop off bs))
+read_of packed off len = Err Unsupported
+read_of (plain bs) off len = Ok (take len (drop off bs))
 
 pub read_shown : (v : View) → Reads v → (i : ℕ) (f : InodeShown) (l : List (AttributeShown (List ℕ))) (c : Contents) (es : List EntryShown) → ShowsNode v i f l c es → (off len : ℕ) → v.read f.id off len ≡ read_of c off len
 read_shown v r i f l packed es h off len = r.of_packed i f h.inode h.contents off len
@@ -111,8 +111,8 @@ agree_here v w f g p q (on x h k e a r) =
 
 -- what was heard
 abbrev value : Answer (List ℕ) → List ℕ
-value (got d) = d
-value (no e) = []
+value (Ok d) = d
+value (Err e) = []
 
 unheard : (l : List (AttributeShown (List ℕ))) → map (λ (a : AttributeShown (Answer (List ℕ))). holding a (value a.contents)) (map heard l) ≡ l
 unheard [] = refl
@@ -183,8 +183,8 @@ module _ (v w : View) where
 
 -- something of what was found
 abbrev Holds : (EntryShown → Type 0) → Answer EntryShown → Type 0
-Holds P (got e) = P e
-Holds P (no n) = Unit
+Holds P (Ok e) = P e
+Holds P (Err n) = Unit
 
 module _ (P : EntryShown → Type 0) where
   pick_holds : (b : Bool) (x y : Answer EntryShown) → Holds P x → Holds P y → Holds P (pick b x y)
@@ -200,13 +200,13 @@ module _ (P : EntryShown → Type 0) where
     key_holds : (es : List EntryShown) → Every P es → Holds P (key_match r entry_label p es)
     unfolding key_match
     key_holds [] h = tt
-    key_holds (e ∷ es) h = pick_holds (wide e.label) (no CharacterNotCovered) _ tt (pick_holds (same_keys r.case_insensitive r.normalization_insensitive p e.label) (got e) _ h.0 (key_holds es h.1))
+    key_holds (e ∷ es) h = pick_holds (wide e.label) (Err CharacterNotCovered) _ tt (pick_holds (same_keys r.case_insensitive r.normalization_insensitive p e.label) (Ok e) _ h.0 (key_holds es h.1))
 
     find_holds : (es : List EntryShown) → Every P es → Holds P (find_entry r entry_label p es)
     unfolding find_entry
-    find_holds es h = exact_holds p es _ h (pick_holds (insensitive r) _ (no NotFound) (pick_holds (wide p) (no CharacterNotCovered) _ tt (key_holds es h)) tt)
+    find_holds es h = exact_holds p es _ h (pick_holds (insensitive r) _ (Err NotFound) (pick_holds (wide p) (Err CharacterNotCovered) _ tt (key_holds es h)) tt)
 
-descend_no : (v : View) (n : Refusal) (ps : List (List ℕ)) → descend v (no n) ps ≡ no n
+descend_no : (v : View) (n : Refusal) (ps : List (List ℕ)) → descend v (Err n) ps ≡ Err n
 unfolding descend
 descend_no v n [] = refl
 descend_no v n (p ∷ ps) = descend_no v n ps
@@ -219,8 +219,8 @@ descend_node v i f l d es h p ps = rw (h.inode, h.entries)
 module _ (v w : View) (hr : v.rule ≡ w.rule) where
   descend_below : (ps : List (List ℕ)) → ((i : ℕ) (t : Tree) → Shows v i t → Shows w i t → descend v (v.inode i) ps ≡ descend w (w.inode i) ps)
       → (r : Answer EntryShown) → Holds (Both v w) r → descend v (r >>= λ e. v.inode e.id) ps ≡ descend w (r >>= λ e. w.inode e.id) ps
-  descend_below ps all (got e) h = all e.id h.0 h.1 h.2
-  descend_below ps all (no n) h = descend_no v n ps ∙ sym (descend_no w n ps)
+  descend_below ps all (Ok e) h = all e.id h.0 h.1 h.2
+  descend_below ps all (Err n) h = descend_no v n ps ∙ sym (descend_no w n ps)
 
   pub descend_same : (ps : List (List ℕ)) (i : ℕ) (t : Tree) → Shows v i t → Shows w i t → descend v (v.inode i) ps ≡ descend w (w.inode i) ps
   unfolding descend

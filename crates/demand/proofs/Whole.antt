@@ -6,7 +6,7 @@ use mathlib.Core.List.{List, [], ◌∷◌, ◌++◌, append_assoc, append-nil}
 use native.Mathlib.Omega.{arith}
 use borrow.Author.Rules.{rules}
 use lib.ListN.{length}
-use Rattle.error.specs.Answer.{Answer, got, no, pick}
+use Rattle.error.specs.Answer.{Answer, Ok, Err, pick}
 use Rattle.error.proofs.Laws.{eq_cases}
 use Rattle.text.specs.Words.{ascii}
 use Rattle.lines.specs.Shown.{InodeShown, EntryShown, AttributeShown, Contents, packed, plain}
@@ -87,8 +87,8 @@ attributes_whole (a ∷ l) h =
 
 -- the bytes that a file's line shows
 abbrev pub length_in : Answer (List ℕ) → ℕ
-length_in (got d) = length d
-length_in (no e) = 0
+length_in (Ok d) = length d
+length_in (Err e) = 0
 
 abbrev pub file_bytes : View → InodeShown → ℕ
 file_bytes v f = pick (is_packed f) 0 (length_in (v.contents f.id))

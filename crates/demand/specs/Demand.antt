@@ -18,7 +18,7 @@
 -- What is assumed: nothing. An image is any list of numbers; 2 says of the two that they are lists of bytes, numbers below 256, as every slice of
 -- bytes is, for only then is no file longer than 2^64 − 1.
 use Rattle.std.specs.Prelude.{ℕ, zero, suc, ◌-◌, ◌^◌, ◌≤◌, ◌<◌, ◌≡◌, true, ◌↔◌, ◌⊎◌, List, [], ◌∷◌, map, get_or}
-use Rattle.error.specs.Answer.{Answer, got, no, ◌>>=◌}
+use Rattle.error.specs.Answer.{Answer, Ok, Err, ◌>>=◌}
 use Rattle.error.specs.declared.Refusal.{Refusal}
 use Rattle.gpt.specs.Part.{on_part}
 use Rattle.utf8.specs.Text.{lossy}
@@ -45,11 +45,11 @@ label_shown image v = lossy (label_of image v)
 
 -- fs.rs, `inode`: "inode fields are those on the node's line"
 unfoldable pub inode_answer : List ℕ → Volume → ℕ → Answer InodeShown
-inode_answer image v id = (inode_of image v id 0).answer >>= λ i. got (inode_shown v.reader image i)
+inode_answer image v id = (inode_of image v id 0).answer >>= λ i. Ok (inode_shown v.reader image i)
 
 -- fs.rs, `read_dir`: "Entries go by ID, DATE, KIND and NAME"
 unfoldable pub entries_answer : List ℕ → Volume → ℕ → Answer (List EntryShown)
-entries_answer image v id = (entries_of image v id 0).answer >>= λ es. got (map (entry_shown v.reader image) es)
+entries_answer image v id = (entries_of image v id 0).answer >>= λ es. Ok (map (entry_shown v.reader image) es)
 
 -- "each attribute with the contents of its own record or stream"
 abbrev pub with_contents : List ℕ → Volume → Attribute → AttributeShown (Answer (List ℕ))
@@ -57,7 +57,7 @@ with_contents image v a = attribute_shown v.reader image a (contents_of image v 
 
 -- fs.rs, `xattrs`, and of each `read_xattr`
 unfoldable pub attributes_answer : List ℕ → Volume → ℕ → Answer (List (AttributeShown (Answer (List ℕ))))
-attributes_answer image v id = (attributes_of image v id 0).answer >>= λ l. got (map (with_contents image v) l)
+attributes_answer image v id = (attributes_of image v id 0).answer >>= λ l. Ok (map (with_contents image v) l)
 
 -- a file's bytes as the listing reads them: with the test on extents, "in a listing, also one that starts before its predecessor's end"
 unfoldable pub contents_answer : List ℕ → Volume → ℕ → Answer (List ℕ)
@@ -86,7 +86,7 @@ Bytes image = (i : ℕ) → get_or image i 0 < 256
 
 -- a volume, at a checkpoint
 unfoldable pub view_of_part : List ℕ → Which → Answer View
-view_of_part part w = (volume_of_image part w).answer >>= λ v. got (view_of part v)
+view_of_part part w = (volume_of_image part w).answer >>= λ v. Ok (view_of part v)
 
 -- its listing into a buffer of `room` bytes: "answered for a volume opened from an image, whatever the buffer's length"
 unfoldable pub listing_of_part : List ℕ → Which → ℕ → Answer (List ℕ)
@@ -95,7 +95,7 @@ listing_of_part part w room = view_of_part part w >>= λ v. listing v room
 -- fs.rs, `lookup_path`: "A lookup goes by its whole answer, less what is left out of the comparison"
 unfoldable pub lookup_of_part : List ℕ → Which → List ℕ → Answer InodeShown
 lookup_of_part part w path =
-    (onto (volume_of_image part w) (λ v s. onto (lookup_path part v path s) λ i t. after t (got (inode_shown v.reader part i)))).answer
+    (onto (volume_of_image part w) (λ v s. onto (lookup_path part v path s) λ i t. after t (Ok (inode_shown v.reader part i)))).answer
 
 -- ---- of an image. Document 02, request 01: "Everything after reads that part as its whole image"
 
@@ -117,8 +117,8 @@ pub data Met : Type 0 where
   refused : Refusal → Met
 
 abbrev pub met : Answer InodeShown → Met
-met (got f) = here f
-met (no e) = refused e
+met (Ok f) = here f
+met (Err e) = refused e
 
 -- "the inode whose ID stands at that place in the entries"; "A chain that goes past the end of a list leads nowhere"
 unfoldable pub place : View → List EntryShown → ℕ → Met
@@ -127,8 +127,8 @@ place v (e ∷ es) zero = met (v.inode e.id)
 place v (e ∷ es) (suc k) = place v es k
 
 abbrev pub place_in : View → Answer (List EntryShown) → ℕ → Met
-place_in v (got es) k = place v es k
-place_in v (no e) k = refused e
+place_in v (Ok es) k = place v es k
+place_in v (Err e) k = refused e
 
 -- "one more position leads on"
 unfoldable pub onward : View → Met → ℕ → Met
@@ -172,20 +172,20 @@ pub record SameTo (most : ℕ) (v w : View) : Type 0 where
 
 -- both volumes open, and they are the same
 abbrev pub SameVolumes : Answer View → Answer View → Type 0
-SameVolumes (got v) (got w) = Same v w
-SameVolumes (got v) (no e) = ⊥
-SameVolumes (no d) (got w) = ⊥
-SameVolumes (no d) (no e) = ⊥
+SameVolumes (Ok v) (Ok w) = Same v w
+SameVolumes (Ok v) (Err e) = ⊥
+SameVolumes (Err d) (Ok w) = ⊥
+SameVolumes (Err d) (Err e) = ⊥
 
 abbrev pub SameVolumesTo : ℕ → Answer View → Answer View → Type 0
-SameVolumesTo most (got v) (got w) = SameTo most v w
-SameVolumesTo most (got v) (no e) = ⊥
-SameVolumesTo most (no d) (got w) = ⊥
-SameVolumesTo most (no d) (no e) = ⊥
+SameVolumesTo most (Ok v) (Ok w) = SameTo most v w
+SameVolumesTo most (Ok v) (Err e) = ⊥
+SameVolumesTo most (Err d) (Ok w) = ⊥
+SameVolumesTo most (Err d) (Err e) = ⊥
 
 -- an answer that is no refusal
 abbrev pub Answered : {A : Type 0} → Answer A → Type 0
-Answered {A} a = (x : A) × (a ≡ got x)
+Answered {A} a = (x : A) × (a ≡ Ok x)
 
 -- each attribute's contents were read
 abbrev pub AllAnswered : List (AttributeShown (Answer (List ℕ))) → Type 0
@@ -196,12 +196,12 @@ AllAnswered (a ∷ l) = Answered a.contents × AllAnswered l
 pub data Unrefused (v : View) (m : Met) : Type 0 where
   past_end : m ≡ nowhere → Unrefused v m
   at_inode : (f : InodeShown) → m ≡ here f → Answered (v.entries f.id)
-      → (l : List (AttributeShown (Answer (List ℕ)))) → v.attributes f.id ≡ got l → AllAnswered l
+      → (l : List (AttributeShown (Answer (List ℕ)))) → v.attributes f.id ≡ Ok l → AllAnswered l
       → (is_packed f ≡ true) ⊎ Answered (v.contents f.id) → Unrefused v m
 
 abbrev pub UnrefusedOn : Answer View → List ℕ → Type 0
-UnrefusedOn (got v) c = Unrefused v (chain v c)
-UnrefusedOn (no e) c = ⊥
+UnrefusedOn (Ok v) c = Unrefused v (chain v c)
+UnrefusedOn (Err e) c = ⊥
 
 -- a lister: of an image, a checkpoint and volume of it and a buffer's length, a text or a refusal
 abbrev pub Lister : Type 0
@@ -211,16 +211,16 @@ Lister = List ℕ → Which → ℕ → Answer (List ℕ)
 -- "Listings of one stick from two checkpoints compare as those of two sticks do": a and b may be one image
 pub record DemandOn (view : List ℕ → Which → Answer View) (find : List ℕ → Which → List ℕ → Answer InodeShown) (lister : Lister) : Type 0 where
   -- 1. equal texts exactly where the volumes are the same
-  pub listings : (a b : List ℕ) (i j : Which) (m n : ℕ) (t u : List ℕ) → lister a i m ≡ got t → lister b j n ≡ got u
+  pub listings : (a b : List ℕ) (i j : Which) (m n : ℕ) (t u : List ℕ) → lister a i m ≡ Ok t → lister b j n ≡ Ok u
       → (t ≡ u) ↔ SameVolumes (view a i) (view b j)
   -- 2. the same for the reads that a caller can ask
-  pub listings_to : (a b : List ℕ) (i j : Which) (m n : ℕ) (t u : List ℕ) → Bytes a → Bytes b → lister a i m ≡ got t → lister b j n ≡ got u
+  pub listings_to : (a b : List ℕ) (i j : Which) (m n : ℕ) (t u : List ℕ) → Bytes a → Bytes b → lister a i m ≡ Ok t → lister b j n ≡ Ok u
       → (t ≡ u) ↔ SameVolumesTo (2 ^ 64 - 1) (view a i) (view b j)
   -- 3. every path gets the same answer, or the same refusal
-  pub lookups : (a b : List ℕ) (i j : Which) (m n : ℕ) (t u : List ℕ) → lister a i m ≡ got t → lister b j n ≡ got u → t ≡ u
+  pub lookups : (a b : List ℕ) (i j : Which) (m n : ℕ) (t u : List ℕ) → lister a i m ≡ Ok t → lister b j n ≡ Ok u → t ≡ u
       → (path : List ℕ) → find a i path ≡ find b j path
   -- 4. no chain meets a refusal
-  pub unrefused : (a : List ℕ) (i : Which) (m : ℕ) (t : List ℕ) → lister a i m ≡ got t → (c : List ℕ) → UnrefusedOn (view a i) c
+  pub unrefused : (a : List ℕ) (i : Which) (m : ℕ) (t : List ℕ) → lister a i m ≡ Ok t → (c : List ℕ) → UnrefusedOn (view a i) c
 
 -- of the listing, on volumes opened from images
 abbrev pub ThirdDemand : Type 0

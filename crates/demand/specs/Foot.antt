@@ -5,7 +5,7 @@
 --   2. those numbers are what the volume shows: the text is that of a tree that stands at the root, and the total line has its nodes, each as often as it
 --      stands in the tree, the bytes of its files, none of a packed one, and its attributes.
 use Rattle.std.specs.Prelude.{ℕ, ◌≡◌, List, []}
-use Rattle.error.specs.Answer.{got}
+use Rattle.error.specs.Answer.{Ok}
 use Rattle.volume.specs.declared.Which.{Which}
 use Rattle.lists.specs.Lists.{root_id}
 use Rattle.lines.specs.Lines.{volume_line}
@@ -23,6 +23,6 @@ pub record Totalled (v : View) (t : List ℕ) : Type 0 where
 
 pub record TotalsAtFoot : Type 0 where
   -- "Each equals the count over the lines above it"
-  pub total_counts : (image : List ℕ) (w : Which) (room : ℕ) (t : List ℕ) → listing_of image w room ≡ got t → (above : List ℕ) × (t ≡ foot above)
+  pub total_counts : (image : List ℕ) (w : Which) (room : ℕ) (t : List ℕ) → listing_of image w room ≡ Ok t → (above : List ℕ) × (t ≡ foot above)
   -- "node forms printed, bytes shown in data forms, and attr forms"
-  pub totals_shown : (image : List ℕ) (w : Which) (room : ℕ) (t : List ℕ) → listing_of image w room ≡ got t → (v : View) × ((view_at image w ≡ got v) × Totalled v t)
+  pub totals_shown : (image : List ℕ) (w : Which) (room : ℕ) (t : List ℕ) → listing_of image w room ≡ Ok t → (v : View) × ((view_at image w ≡ Ok v) × Totalled v t)

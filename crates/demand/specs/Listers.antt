@@ -7,8 +7,8 @@
 --   1. on small sticks, on which ours meets it;
 --   2. of images read in any way, as our own reads them too, by any two volumes that are not the same, or images that differ with one volume in them.
 use Rattle.std.specs.Prelude.{ℕ, ◌≡◌, false, cond, List, [], ◌∷◌, pos, eqb, get_or, take, drop}
-use Rattle.std.proofs.Math.Option.{none}
-use Rattle.error.specs.Answer.{Answer, got, ◌>>=◌}
+use Rattle.std.specs.Prelude.{None}
+use Rattle.error.specs.Answer.{Answer, Ok, ◌>>=◌}
 use Rattle.volume.specs.declared.Which.{Which}
 use Rattle.lists.specs.Lists.{root_id}
 use Rattle.lines.specs.Shown.{InodeShown, EntryShown}
@@ -58,8 +58,8 @@ small_inode bsd i = record {
   owner = 0;
   group = 0;
   mode = 16877;
-  label = none;
-  stream = none;
+  label = None;
+  stream = None;
 }
 
 -- the root has inode 3, and that has inode 4
@@ -75,15 +75,15 @@ abbrev pub small_view : ℕ → View
 small_view b = record {
   label = 65 ∷ [];
   rule = record { case_insensitive = false; normalization_insensitive = false };
-  inode = λ i. got (small_inode 0 i);
-  entries = λ i. got (small_entries i);
-  attributes = λ i. got [];
-  contents = λ i. got (small_file b i);
-  read = λ i off len. got (take len (drop off (small_file b i)));
+  inode = λ i. Ok (small_inode 0 i);
+  entries = λ i. Ok (small_entries i);
+  attributes = λ i. Ok [];
+  contents = λ i. Ok (small_file b i);
+  read = λ i off len. Ok (take len (drop off (small_file b i)));
 }
 
 abbrev pub small_at : List ℕ → Which → Answer View
-small_at image w = got (small_view (get_or image 0 0))
+small_at image w = Ok (small_view (get_or image 0 0))
 
 abbrev pub small_find : List ℕ → Which → List ℕ → Answer InodeShown
 small_find image w path = small_at image w >>= λ v. lookup v path
@@ -93,13 +93,13 @@ small_find image w path = small_at image w >>= λ v. lookup v path
 -- images read in any way: what shows that a lister does not meet the demand
 pub record ShutOut (view : List ℕ → Which → Answer View) (find : List ℕ → Which → List ℕ → Answer InodeShown) : Type 0 where
   -- two volumes that are not the same
-  pub fixed_text_lem : (a b : List ℕ) (i j : Which) (v w : View) → view a i ≡ got v → view b j ≡ got w → (Same v w → ⊥)
+  pub fixed_text_lem : (a b : List ℕ) (i j : Which) (v w : View) → view a i ≡ Ok v → view b j ≡ Ok w → (Same v w → ⊥)
       → (s : List ℕ) → DemandOn view find (writing (fixed_text s) view) → ⊥
   -- two that are not the same, and whose roots are written alike
-  pub deeper_blank : (a b : List ℕ) (i j : Which) (v w : View) → view a i ≡ got v → view b j ≡ got w → (Same v w → ⊥)
+  pub deeper_blank : (a b : List ℕ) (i j : Which) (v w : View) → view a i ≡ Ok v → view b j ≡ Ok w → (Same v w → ⊥)
       → (s : List ℕ) → root_alone a v ≡ says s → root_alone b w ≡ says s → DemandOn view find (writing root_alone view) → ⊥
   -- two images that differ, with the same volume in them
-  pub image_copied : (a b : List ℕ) (i j : Which) (v w : View) → view a i ≡ got v → view b j ≡ got w → Same v w → (a ≡ b → ⊥)
+  pub image_copied : (a b : List ℕ) (i j : Which) (v w : View) → view a i ≡ Ok v → view b j ≡ Ok w → Same v w → (a ≡ b → ⊥)
       → DemandOn view find (writing image_itself view) → ⊥
 
 pub record WrongListers : Type 0 where

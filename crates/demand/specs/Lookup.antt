@@ -1,7 +1,7 @@
 -- Looking a path up on what a volume answers. Document 01, "Records": "Paths split on / and \, empty parts dropped. Per part, the first exactly equal
 -- name is taken, else the first with an equal key".
 use Rattle.std.specs.Prelude.{ℕ, List, [], ◌∷◌}
-use Rattle.error.specs.Answer.{Answer, no, ◌>>=◌, pick}
+use Rattle.error.specs.Answer.{Answer, Err, ◌>>=◌, pick}
 use Rattle.error.specs.declared.Refusal.TheVariants.{PathNotUtf8}
 use Rattle.utf8.specs.Text.{strict}
 use Rattle.lists.specs.Lists.{root_id}
@@ -20,4 +20,4 @@ descend v a (p ∷ ps) = descend v (a >>= λ f. v.entries f.id >>= λ es. find_e
 
 -- from the root; 5 "path not UTF-8, after opening and before the root is read"
 unfoldable pub lookup : View → List ℕ → Answer InodeShown
-lookup v path = pick (strict path) (descend v (v.inode root_id) (parts_of path)) (no PathNotUtf8)
+lookup v path = pick (strict path) (descend v (v.inode root_id) (parts_of path)) (Err PathNotUtf8)

@@ -1,7 +1,7 @@
 -- A text that is written piece by piece until something is refused: the text so far, and how it ended. Document 01, "The listing (added)": "A listing
 -- is refused for a fault met in opening or in this reading, or with 6 or 10, and otherwise is the text above".
 use Rattle.std.specs.Prelude.{ℕ, List, [], ◌++◌, length}
-use Rattle.error.specs.Answer.{Answer, got, no, if_le}
+use Rattle.error.specs.Answer.{Answer, Ok, Err, if_le}
 use Rattle.error.specs.declared.Refusal.{Refusal}
 use Rattle.error.specs.declared.Refusal.TheVariants.{BufferTooShort}
 
@@ -30,14 +30,14 @@ t then u = go_on t.text t.ended u
 
 -- what is written of what is read, and where that is refused, the refusal
 unfoldable pub reading : {A : Type 0} → Answer A → (A → Trace) → Trace
-reading (got a) f = f a
-reading (no e) f = refuses e
+reading (Ok a) f = f a
+reading (Err e) f = refuses e
 
 abbrev pub text_or : List ℕ → End → Answer (List ℕ)
-text_or s done = got s
-text_or s (stop e) = no e
+text_or s done = Ok s
+text_or s (stop e) = Err e
 
 -- "6 (added) buffer shorter than the answer: .. in a listing, at the first line that was read without fault and does not fit": all that a line
 -- needs is read before its first byte, so that a text longer than the room is one whose first line past it does not fit
 unfoldable pub within : ℕ → Trace → Answer (List ℕ)
-within room t = if_le (length t.text) room (text_or t.text t.ended) (no BufferTooShort)
+within room t = if_le (length t.text) room (text_or t.text t.ended) (Err BufferTooShort)

@@ -9,22 +9,20 @@ use lib.IntN.{ℤ}
 use lib.ListN.{length}
 use mir.Syntax.{w64}
 use mir.Val.{to_z, of_z}
-use Rattle.error.specs.Answer.{Answer, got, no, ◌>>=◌, if_le, if_eq}
+use Rattle.error.specs.Answer.{Answer, Ok, Err, ◌>>=◌, if_le, if_eq}
 use Rattle.error.specs.declared.Refusal.{Refusal}
 use Rattle.error.specs.declared.Refusal.TheVariants.{NotFound}
 use Rattle.error.proofs.Laws.{at_most_lem, above, same, other}
 use Rattle.byte_fields.specs.Part.{part_of}
 use Rattle.byte_fields.specs.declared.Span.{Span}
 use Rattle.gpt.specs.Part.{part_of_image, on_part}
-use Rattle.lookup.specs.Counted.{Counted, after, from}
+use Rattle.lookup.specs.declared.counted.Counted.{Counted}
+use Rattle.lookup.specs.Counted.{after, from}
 use Rattle.checkpoints.specs.Numbers.{numbers_at}
 use Rattle.checkpoints.specs.declared.by_number.Choice.{Choice}
 use Rattle.checkpoints.specs.declared.by_number.Choice.TheVariants.{Latest, Number}
 use Rattle.volume.specs.declared.Which.{Which}
-use Rattle.text.specs.declared.Position.{Position}
-use Rattle.text.specs.declared.Position.TheVariants.{At, No}
-use Rattle.calls.specs.Filled.{Filled, filled_by, filled_at, positioned, Answered, answered, called_by}
-use Rattle.calls.specs.declared.Progress.{Progress}
+use Rattle.calls.specs.Filled.{Filled, filled_by, filled_at, Answered, answered, called_by}
 use Rattle.listing.specs.Listed.{listed_of, listed_by, list_counted}
 use Rattle.xid_list.specs.Listed.{xids_by}
 use Rattle.part_line.specs.Line.{part_text}
@@ -39,8 +37,8 @@ use Rattle.desks.specs.Requests.{Request, asked, which_by, which_of, text_by, te
 use Rattle.desks.specs.Inner.{left_by, rest_for, left_for}
 
 from_answer : {A B : Type 0} (a : Answer A) (f : A → Counted B) → (from 0 a f).answer ≡ (a >>= λ x. (f x).answer)
-from_answer (got x) f = refl
-from_answer (no e) f = refl
+from_answer (Ok x) f = refl
+from_answer (Err e) f = refl
 
 -- ---- a row of the table
 
@@ -65,11 +63,11 @@ last_upper n h a b c d e f = of (dec_le n 9) (dec_le n 11)
     of (Dec.no k) (Dec.no l) = omega (arith, h.1)
 
 module _ (what : ℕ) (e : Refusal) (out : List ℕ) where
-  pub zeroed : (z : Filled) → what ≡ 3 → z ≡ listed_of (no e) out → ◌≡◌ {A = Answered} (record { nodes = 0; result = z }) (left_by what (after 0 (no e)) out)
+  pub zeroed : (z : Filled) → what ≡ 3 → z ≡ listed_of (Err e) out → ◌≡◌ {A = Answered} (record { nodes = 0; result = z }) (left_by what (after 0 (Err e)) out)
   unfolding left_by
   zeroed z q h = same _ _ _ _ _ q (ap (λ (x : Filled). record { nodes = 0; result = x }) h)
 
-  pub unchanged : (what ≡ 3 → ⊥) → ◌≡◌ {A = Answered} (record { nodes = 0; result = filled_at (No e) out }) (left_by what (after 0 (no e)) out)
+  pub unchanged : (what ≡ 3 → ⊥) → ◌≡◌ {A = Answered} (record { nodes = 0; result = filled_at (Err e) out }) (left_by what (after 0 (Err e)) out)
   unfolding left_by
   unchanged q = other _ _ _ _ _ q refl
 
@@ -77,7 +75,7 @@ module _ (what : ℕ) (image out : List ℕ) where
   pub rest_of : (k : ℕ) (z : Filled) → what ≡ k → z ≡ rest_for k image out → z ≡ rest_for what image out
   rest_of k z e h = rw e h
 
-  pub rest_none : (what ≡ 14 → ⊥) → (what ≡ 15 → ⊥) → (what ≡ 16 → ⊥) → filled_at (No NotFound) out ≡ rest_for what image out
+  pub rest_none : (what ≡ 14 → ⊥) → (what ≡ 15 → ⊥) → (what ≡ 16 → ⊥) → filled_at (Err NotFound) out ≡ rest_for what image out
   unfolding rest_for
   rest_none a b c = other _ _ _ _ _ a (other _ _ _ _ _ b (other _ _ _ _ _ c refl))
 
@@ -130,7 +128,7 @@ module _ (q : Request) (out : List ℕ) (h : 14 ≤ q.what) where
   rest = other _ _ _ _ _ (λ e. omega arith) (of (ℕ_discrete q.what 14) (ℕ_discrete q.what 15) (ℕ_discrete q.what 16))
     where
       none : Filled
-      none = record { answer = no NotFound; buffer = out }
+      none = record { answer = Err NotFound; buffer = out }
 
       of : Dec (q.what ≡ 14) → Dec (q.what ≡ 15) → Dec (q.what ≡ 16) →
           if_eq q.what 14 (xids_by (on_part numbers_at q.image) out) (if_eq q.what 15 (filled_by (part_text q.image) out) (if_eq q.what 16 (mends_in (mends_of q.image) out) none))
@@ -158,18 +156,18 @@ module _ (what : ℕ) (image : List ℕ) (numbered xid volume a b c : ℕ) (path
 
 -- ---- the count of a call lies within its buffer
 
-refused_within : (e : Refusal) (x out : List ℕ) (r : Position) → filled_at r x ≡ record { answer = no e; buffer = out } → Within r
-refused_within e x out (At n) p = absurd (let z : ◌≡◌ {A = ℕ} 0 1 = cc (ap (λ (f : Filled). f.answer) p) in omega arith)
-refused_within e x out (No w) p = tt
+refused_within : (e : Refusal) (x out : List ℕ) (r : Answer ℕ) → filled_at r x ≡ record { answer = Err e; buffer = out } → Within r
+refused_within e x out (Ok n) p = absurd (let z : ◌≡◌ {A = ℕ} 0 1 = cc (ap (λ (f : Filled). f.answer) p) in omega arith)
+refused_within e x out (Err w) p = tt
 
-module _ (q : Request) (out x : List ℕ) (r : Position) (k : q.room ≡ length out) (s : length out * 1 < 2 ^ 63) where
+module _ (q : Request) (out x : List ℕ) (r : Answer ℕ) (k : q.room ≡ length out) (s : length out * 1 < 2 ^ 63) where
   listing_within : q.what ≡ 3 → filled_at r x ≡ listed_of (answer_of q) out → Within r
   unfolding text_by list_counted if_eq
   listing_within e p = of (part_of_image q.image) (p ∙ ap (λ (n : ℕ). listed_of (on_part (λ y. (text_by n (which_of q) q.a q.b q.c q.path q.room y).answer) q.image) out) e)
     where
       of : (a : Answer Span) → filled_at r x ≡ listed_of (a >>= λ y. (list_counted (part_of q.image y) (which_of q) q.room).answer) out → Within r
-      of (got y) g = list_within (part_of q.image y) (which_of q) out x r (rw k at g) s
-      of (no w) g = refused_within w x _ r g
+      of (Ok y) g = list_within (part_of q.image y) (which_of q) out x r (rw k at g) s
+      of (Err w) g = refused_within w x _ r g
 
   filled_within : filled_at r x ≡ filled_for q out → Within r
   unfolding filled_for
@@ -183,15 +181,15 @@ module _ (q : Request) (out x : List ℕ) (r : Position) (k : q.room ≡ length 
       of (Dec.no a) (Dec.no b) (Dec.no c) (Dec.no d) (Dec.yes e) = refused_within NotFound x out r (p ∙ sym (other _ _ _ _ _ a (other _ _ _ _ _ b (other _ _ _ _ _ c (other _ _ _ _ _ d (at_most_lem _ _ _ _ _ e refl))))))
       of (Dec.no a) (Dec.no b) (Dec.no c) (Dec.no d) (Dec.no e) = call_within (answer_of q) out x r (p ∙ sym (other _ _ _ _ _ a (other _ _ _ _ _ b (other _ _ _ _ _ c (other _ _ _ _ _ d (above _ _ _ _ _ (omega arith) refl)))))) s
 
-module _ (what : ℕ) (image : List ℕ) (numbered xid volume a b c : ℕ) (path out x : List ℕ) (r : Progress) (p : called_by r x ≡ left_for (request what image numbered xid volume a b c path out) out) where
-  filled_as : filled_at r.at x ≡ filled_for (request what image numbered xid volume a b c path out) out
+module _ (what : ℕ) (image : List ℕ) (numbered xid volume a b c : ℕ) (path out x : List ℕ) (r : Counted ℕ) (p : called_by r x ≡ left_for (request what image numbered xid volume a b c path out) out) where
+  filled_as : filled_at r.answer x ≡ filled_for (request what image numbered xid volume a b c path out) out
   filled_as = ap (λ (m : Answered). m.result) p
 
-  pub within_buffer : length out * 1 < 2 ^ 63 → Within r.at
-  within_buffer s = filled_within (request what image numbered xid volume a b c path out) out x r.at refl s filled_as
+  pub within_buffer : length out * 1 < 2 ^ 63 → Within r.answer
+  within_buffer s = filled_within (request what image numbered xid volume a b c path out) out x r.answer refl s filled_as
 
-  pub result_told : length out * 1 < 2 ^ 63 → (z : ℤ) → z ≡ result_at r.at → to_z w64 (of_z w64 z) ≡ result_for (request what image numbered xid volume a b c path out) out
-  result_told s z e = counted_result _ x r.at filled_as (within_buffer s) z e
+  pub result_told : length out * 1 < 2 ^ 63 → (z : ℤ) → z ≡ result_at r.answer → to_z w64 (of_z w64 z) ≡ result_for (request what image numbered xid volume a b c path out) out
+  result_told s z e = counted_result _ x r.answer filled_as (within_buffer s) z e
 
   pub nodes_told : r.nodes ≡ nodes_of (request what image numbered xid volume a b c path out)
   nodes_told = ap (λ (m : Answered). m.nodes) p

@@ -4,7 +4,7 @@ use mathlib.Core.Path.{◌≡◌, refl, sym, ap}
 use mathlib.Core.List.{List}
 use lib.ListN.{length}
 use native.Mathlib.Omega.{arith}
-use Rattle.error.specs.Answer.{no, if_le, if_eq}
+use Rattle.error.specs.Answer.{Err, if_le, if_eq}
 use Rattle.error.specs.declared.Refusal.TheVariants.{NotFound}
 use Rattle.error.proofs.Laws.{at_most_lem, other}
 use Rattle.checkpoints.specs.declared.by_number.Choice.{Choice}
@@ -14,7 +14,7 @@ use Rattle.demand.specs.Demand.{listing_of}
 use Rattle.desks.specs.Requests.{Request, asked, text_by, filled_for, nodes_of}
 use Rattle.desks.specs.Usual.{Usual}
 
-no_call : (q : Request) (out : List ℕ) → 16 < q.what → filled_for q out ≡ record { answer = no NotFound; buffer = out }
+no_call : (q : Request) (out : List ℕ) → 16 < q.what → filled_for q out ≡ record { answer = Err NotFound; buffer = out }
 unfolding filled_for
 no_call q out h = sym (other _ _ _ _ _ (λ e. omega arith) (other _ _ _ _ _ (λ e. omega arith) (other _ _ _ _ _ (λ e. omega arith) (other _ _ _ _ _ (λ e. omega arith) (at_most_lem _ _ _ _ _ h refl)))))
 

@@ -2,11 +2,12 @@
 -- desk .. that desk's count goes up in the dock's record by the nodes its call went through". A text that is counted has the answer of the call that is
 -- exported by itself (`entry_text` is `entry_counted`'s, and so on): "the answer is the usual one".
 use Rattle.std.specs.Prelude.{ℕ, ◌%◌, List, ℤ}
-use Rattle.error.specs.Answer.{Answer, no, if_le, if_eq}
+use Rattle.error.specs.Answer.{Answer, Err, if_le, if_eq}
 use Rattle.error.specs.declared.Refusal.TheVariants.{NotFound}
 use Rattle.byte_fields.specs.Part.{part_of}
 use Rattle.gpt.specs.Part.{part_of_image, on_part}
-use Rattle.lookup.specs.Counted.{Counted, from}
+use Rattle.lookup.specs.declared.counted.Counted.{Counted}
+use Rattle.lookup.specs.Counted.{from}
 use Rattle.checkpoints.specs.Numbers.{numbers_at}
 use Rattle.checkpoints.specs.declared.by_number.Choice.TheVariants.{Latest, Number}
 use Rattle.volume.specs.declared.Which.{Which}
@@ -81,7 +82,7 @@ filled_for q out =
     (if_eq q.what 14 (xids_by (on_part numbers_at q.image) out)
     (if_eq q.what 15 (filled_by (part_text q.image) out)
     (if_eq q.what 16 (mends_in (mends_of q.image) out)
-    (if_le 17 q.what (record { answer = no NotFound; buffer = out }) (filled_by (answer_of q) out)))))
+    (if_le 17 q.what (record { answer = Err NotFound; buffer = out }) (filled_by (answer_of q) out)))))
 
 abbrev pub result_for : Request → List ℕ → ℤ
 result_for q out = number (filled_for q out).answer

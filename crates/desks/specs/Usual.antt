@@ -2,7 +2,7 @@
 -- checkpoint (`n` is 0) or at that of a number. Document 02, request 06. It is proved, as `usual`, in proofs/Usual.antt; that the desk does not matter,
 -- `apfs_desk`'s contract says, whose result and buffer do not name it.
 use Rattle.std.specs.Prelude.{ℕ, ◌%◌, ◌≤◌, ◌<◌, ◌≡◌, List, length}
-use Rattle.error.specs.Answer.{no}
+use Rattle.error.specs.Answer.{Err}
 use Rattle.error.specs.declared.Refusal.TheVariants.{NotFound}
 use Rattle.gpt.specs.Part.{on_part}
 use Rattle.checkpoints.specs.Numbers.{numbers_at}
@@ -45,6 +45,6 @@ pub record Usual (image : List ℕ) (n xid v a b c : ℕ) (path out : List ℕ) 
   pub part : filled_for (asked 15 image n xid v a b c path (length out)) out ≡ filled_by (part_text image) out
   pub wrong_words : filled_for (asked 16 image n xid v a b c path (length out)) out ≡ mends_in (mends_of image) out
   -- a number of no call is 4, and leaves the buffer
-  pub no_call : (what : ℕ) → 16 < what → filled_for (asked what image n xid v a b c path (length out)) out ≡ record { answer = no NotFound; buffer = out }
+  pub no_call : (what : ℕ) → 16 < what → filled_for (asked what image n xid v a b c path (length out)) out ≡ record { answer = Err NotFound; buffer = out }
   -- the list of checkpoints, the part, the wrong words and a number of no call go through no node
   pub no_nodes : (what : ℕ) → 14 ≤ what → nodes_of (asked what image n xid v a b c path (length out)) ≡ 0

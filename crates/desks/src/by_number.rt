@@ -1,6 +1,6 @@
 // A call by its number, on an image.
 ghost use Rattle.std.specs.Prelude.{◌≡◌, ◌≤◌, ◌<◌, length};
-ghost use Rattle.error.specs.Answer.{no};
+ghost use Rattle.error.specs.Answer.{Err};
 ghost use Rattle.byte_fields.specs.Part.{part_of};
 ghost use Rattle.gpt.specs.Part.{part_of_image, on_part};
 ghost use Rattle.lookup.specs.Counted.{after, from};
@@ -12,15 +12,14 @@ ghost use Rattle.desks.specs.Inner.{left_by, rest_for, left_for};
 
 use crate::counts::Called;
 use crate::rows::call_in;
-use byte_fields::{Sliced, part};
-use calls::Progress;
+use byte_fields::part;
 use checkpoints::Choice;
 use error::Refusal;
 use gpt::part_of_image;
 use listing::refuse_zeroed;
+use lookup::Counted;
 use part_line::part_text;
 use results::result_of;
-use text::Position;
 use volume::Which;
 use wrong_word::wrong_words;
 use xid_list::list_xids;
@@ -42,17 +41,17 @@ fn which_of(numbered: u64, xid: u64, volume: u64) -> Which
 }
 
 // Where no container's part is found, nothing is gone through.
-fn no_part(what: u64, e: Refusal, out: &mut [u8]) -> Progress
-    ensures { called_by result out.new ≡ left_by what (after 0 (no e)) out.old }
+fn no_part(what: u64, e: Refusal, out: &mut [u8]) -> Counted<usize>
+    ensures { called_by result out.new ≡ left_by what (after 0 (Err e)) out.old }
 {
     if what == 3 {
-        return Progress {
-            at: refuse_zeroed(out, e),
+        return Counted {
+            answer: refuse_zeroed(out, e),
             nodes: 0,
         };
     }
-    Progress {
-        at: Position::No(e),
+    Counted {
+        answer: Err(e),
         nodes: 0,
     }
 }
@@ -66,27 +65,25 @@ fn call_on_part(
     c: u64,
     path: &[u8],
     out: &mut [u8],
-) -> Progress
+) -> Counted<usize>
     requires { what < 14 }
     ensures { called_by result out.new ≡ left_by what (from 0 (part_of_image image.now) λ s. text_by what which a b c path.now (length out.old) (part_of image.now s)) out.old }
 {
     match part_of_image(image) {
-        Sliced::Got(s) => call_in(what, part(image, s), which, a, b, c, path, out),
-        Sliced::No(e) => no_part(what, e, out),
+        Ok(s) => call_in(what, part(image, s), which, a, b, c, path, out),
+        Err(e) => no_part(what, e, out),
     }
 }
 
-fn checkpoints_of(image: &[u8], out: &mut [u8]) -> Position
+fn checkpoints_of(image: &[u8], out: &mut [u8]) -> Result<usize, Refusal>
     ensures { filled_at result out.new ≡ xids_by (on_part numbers_at image.now) out.old }
 {
-    match part_of_image(image) {
-        Sliced::Got(s) => list_xids(part(image, s), out),
-        Sliced::No(e) => Position::No(e),
-    }
+    let s = part_of_image(image)?;
+    list_xids(part(image, s), out)
 }
 
 // From 14 on: these go through no node.
-fn other_call(what: u64, image: &[u8], out: &mut [u8]) -> Position
+fn other_call(what: u64, image: &[u8], out: &mut [u8]) -> Result<usize, Refusal>
     ensures { filled_at result out.new ≡ rest_for what image.now out.old }
 {
     if what == 14 {
@@ -98,7 +95,7 @@ fn other_call(what: u64, image: &[u8], out: &mut [u8]) -> Position
     if what == 16 {
         return wrong_words(image, out);
     }
-    Position::No(Refusal::NotFound)
+    Err(Refusal::NotFound)
 }
 
 fn progress_of(
@@ -112,15 +109,15 @@ fn progress_of(
     c: u64,
     path: &[u8],
     out: &mut [u8],
-) -> Progress
+) -> Counted<usize>
     ensures { called_by result out.new ≡ left_for (asked what image.now numbered xid volume a b c path.now (length out.old)) out.old }
 {
     if what < 14 {
         let which = which_of(numbered, xid, volume);
         return call_on_part(what, image, which, a, b, c, path, out);
     }
-    Progress {
-        at: other_call(what, image, out),
+    Counted {
+        answer: other_call(what, image, out),
         nodes: 0,
     }
 }

@@ -5,11 +5,11 @@ ghost use Rattle.desks.specs.Requests.{text_by};
 ghost use Rattle.desks.specs.Inner.{left_by};
 
 use attribute_lines::attribute_text;
-use calls::Progress;
 use container_line::open_line;
 use element_lines::{entry_text, extent_text, lookup_text};
 use entry_lines::entries_text;
 use listing::list_text;
+use lookup::Counted;
 use marks::{mark_text, marked_text};
 use measure::measure_text;
 use reads::{link_text, read_text, xattr_bytes};
@@ -26,7 +26,7 @@ fn lower_call(
     c: u64,
     path: &[u8],
     out: &mut [u8],
-) -> Progress
+) -> Counted<usize>
     requires { what < 7 }
     ensures { called_by result out.new ≡ left_by what (text_by what which a b c path.now (length out.old) image.now) out.old }
 {
@@ -62,7 +62,7 @@ fn upper_call(
     c: u64,
     path: &[u8],
     out: &mut [u8],
-) -> Progress
+) -> Counted<usize>
     requires { (7 ≤ what) × (what < 14) }
     ensures { called_by result out.new ≡ left_by what (text_by what which a b c path.now (length out.old) image.now) out.old }
 {
@@ -97,7 +97,7 @@ pub fn call_in(
     c: u64,
     path: &[u8],
     out: &mut [u8],
-) -> Progress
+) -> Counted<usize>
     requires { what < 14 }
     ensures { called_by result out.new ≡ left_by what (text_by what which a b c path.now (length out.old) image.now) out.old }
 {

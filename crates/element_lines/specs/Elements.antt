@@ -1,9 +1,10 @@
 -- The line of an inode by its path, and of an entry and an extent by their place, in the listing's notation: document 01, "The listing (added)".
 -- Of a list, "past its end is "none"": nothing is written.
 use Rattle.std.specs.Prelude.{ℕ, List, []}
-use Rattle.std.proofs.Math.Option.{Option, none, some}
-use Rattle.error.specs.Answer.{Answer, got}
-use Rattle.lookup.specs.Counted.{Counted, after, onto}
+use Rattle.std.specs.Prelude.{Option, None, Some}
+use Rattle.error.specs.Answer.{Answer, Ok}
+use Rattle.lookup.specs.declared.counted.Counted.{Counted}
+use Rattle.lookup.specs.Counted.{after, onto}
 use Rattle.volume.specs.declared.Volume.{Volume}
 use Rattle.volume.specs.declared.Which.{Which}
 use Rattle.records.specs.declared.directory.Entry.{Entry}
@@ -16,11 +17,11 @@ use Rattle.lines.specs.Lines.{node_line, entry_line, extent_line}
 use Rattle.calls.specs.OnVolume.{on_volume}
 
 abbrev pub entry_show : List ℕ → Volume → Option Entry → List ℕ
-entry_show image v none = []
-entry_show image v (some e) = entry_line (entry_shown v.reader image e) []
+entry_show image v None = []
+entry_show image v (Some e) = entry_line (entry_shown v.reader image e) []
 
 unfoldable pub entry_on : List ℕ → Volume → ℕ → ℕ → ℕ → Counted (List ℕ)
-entry_on image v id place s = onto (placed place (entries_of image v id s)) λ o t. after t (got (entry_show image v o))
+entry_on image v id place s = onto (placed place (entries_of image v id s)) λ o t. after t (Ok (entry_show image v o))
 
 -- the line of an entry by its place, with the nodes gone through: document 02, request 06
 unfoldable pub entry_counted : List ℕ → Which → ℕ → ℕ → Counted (List ℕ)
@@ -31,7 +32,7 @@ abbrev pub entry_text : List ℕ → Which → ℕ → ℕ → Answer (List ℕ)
 entry_text image w id place = (entry_counted image w id place).answer
 
 unfoldable pub lookup_on : List ℕ → Volume → List ℕ → ℕ → Counted (List ℕ)
-lookup_on image v path s = onto (lookup_path image v path s) λ i t. after t (got (node_line (inode_shown v.reader image i) []))
+lookup_on image v path s = onto (lookup_path image v path s) λ i t. after t (Ok (node_line (inode_shown v.reader image i) []))
 
 -- the line of an inode by its path, with the nodes gone through: document 02, request 06
 unfoldable pub lookup_counted : List ℕ → Which → List ℕ → Counted (List ℕ)
@@ -42,12 +43,12 @@ abbrev pub lookup_text : List ℕ → Which → List ℕ → Answer (List ℕ)
 lookup_text image w path = (lookup_counted image w path).answer
 
 abbrev pub extent_show : Option Extent → List ℕ
-extent_show none = []
-extent_show (some e) = extent_line e []
+extent_show None = []
+extent_show (Some e) = extent_line e []
 
 -- of an inode that was read (fs.rs, `file_extents`)
 unfoldable pub extent_of : List ℕ → Volume → Inode → ℕ → ℕ → Counted (List ℕ)
-extent_of image v i place s = onto (file_extents image v i place s) λ o t. after t (got (extent_show o))
+extent_of image v i place s = onto (file_extents image v i place s) λ o t. after t (Ok (extent_show o))
 
 unfoldable pub extent_on : List ℕ → Volume → ℕ → ℕ → ℕ → Counted (List ℕ)
 extent_on image v id place s = onto (inode_of image v id s) λ i t. extent_of image v i place t

@@ -5,56 +5,63 @@ ghost use Rattle.lines.specs.Lines.{entry_line};
 ghost use Rattle.calls.specs.Filled.{filled_at, filled, called_by, answered};
 ghost use Rattle.element_lines.specs.Elements.{entry_on, entry_counted};
 
-use calls::Progress;
+use error::Refusal;
 use lines::put_entry_line;
-use lists::{EntryAt, entry_at};
+use lists::entry_at;
+use lookup::Counted;
 use obj::Reader;
 use records::Entry;
-use text::Position;
-use volume::{Volume, VolumeOpening, Which, open_at};
+use volume::{Volume, Which, open_at};
 
 // Measured first: a buffer that is too short is left as it was.
-fn show_entry(image: &[u8], reader: Reader, e: Entry, out: &mut [u8]) -> Position
+fn show_entry(image: &[u8], reader: Reader, e: Entry, out: &mut [u8]) -> Result<usize, Refusal>
     ensures { filled_at result out.new ≡ filled (entry_line (entry_shown reader image.now e) []) out.old }
 {
     let room = out.len();
-    match put_entry_line(&mut out[..0], room, Position::At(0), image, reader, e) {
-        Position::No(w) => Position::No(w),
-        Position::At(_) => put_entry_line(out, room, Position::At(0), image, reader, e),
+    match put_entry_line(&mut out[..0], room, Ok(0), image, reader, e) {
+        Err(w) => Err(w),
+        Ok(_) => put_entry_line(out, room, Ok(0), image, reader, e),
     }
 }
 
-fn entry_on(image: &[u8], v: Volume, id: u64, place: u64, nodes: u64, out: &mut [u8]) -> Progress
+fn entry_on(
+    image: &[u8],
+    v: Volume,
+    id: u64,
+    place: u64,
+    nodes: u64,
+    out: &mut [u8],
+) -> Counted<usize>
     ensures { called_by result out.new ≡ answered (entry_on image.now v id place nodes) out.old }
 {
     let found = entry_at(image, v, id, place, nodes);
     let reader = v.reader;
-    let entry = found.entry;
+    let entry = found.answer;
     match entry {
-        EntryAt::Nothing => Progress {
-            at: Position::At(0),
+        Ok(None) => Counted {
+            answer: Ok(0),
             nodes: found.nodes,
         },
-        EntryAt::At(e) => Progress {
-            at: show_entry(image, reader, e, out),
+        Ok(Some(e)) => Counted {
+            answer: show_entry(image, reader, e, out),
             nodes: found.nodes,
         },
-        EntryAt::No(w) => Progress {
-            at: Position::No(w),
+        Err(w) => Counted {
+            answer: Err(w),
             nodes: found.nodes,
         },
     }
 }
 
-pub fn entry_text(image: &[u8], which: Which, id: u64, place: u64, out: &mut [u8]) -> Progress
+pub fn entry_text(image: &[u8], which: Which, id: u64, place: u64, out: &mut [u8]) -> Counted<usize>
     ensures { called_by result out.new ≡ answered (entry_counted image.now which id place) out.old }
 {
     let opened = open_at(image, which);
-    let volume = opened.volume;
+    let volume = opened.answer;
     match volume {
-        VolumeOpening::Got(v) => entry_on(image, v, id, place, opened.nodes, out),
-        VolumeOpening::No(w) => Progress {
-            at: Position::No(w),
+        Ok(v) => entry_on(image, v, id, place, opened.nodes, out),
+        Err(w) => Counted {
+            answer: Err(w),
             nodes: opened.nodes,
         },
     }

@@ -2,9 +2,10 @@
 -- "the whole list read first; past its end is "none"": nothing is written; "6 (added) buffer shorter than the answer", where not even the first
 -- line fits.
 use Rattle.std.specs.Prelude.{ℕ, ◌-◌, List, [], ◌∷◌, ◌++◌, map, length, drop}
-use Rattle.error.specs.Answer.{Answer, got, no, if_le}
+use Rattle.error.specs.Answer.{Answer, Ok, Err, if_le}
 use Rattle.error.specs.declared.Refusal.TheVariants.{BufferTooShort}
-use Rattle.lookup.specs.Counted.{Counted, after, onto}
+use Rattle.lookup.specs.declared.counted.Counted.{Counted}
+use Rattle.lookup.specs.Counted.{after, onto}
 use Rattle.obj.specs.declared.reader.Reader.{Reader}
 use Rattle.volume.specs.declared.Volume.{Volume}
 use Rattle.volume.specs.declared.Which.{Which}
@@ -24,8 +25,8 @@ fitting room (t ∷ ts) = if_le (length t) room (t ++ fitting (room - length t) 
 
 -- that, but 6 where there is a first line and it does not fit
 unfoldable pub fitting_some : ℕ → List (List ℕ) → Answer (List ℕ)
-fitting_some room [] = got []
-fitting_some room (t ∷ ts) = if_le (length t) room (got (fitting room (t ∷ ts))) (no BufferTooShort)
+fitting_some room [] = Ok []
+fitting_some room (t ∷ ts) = if_le (length t) room (Ok (fitting room (t ∷ ts))) (Err BufferTooShort)
 
 unfoldable pub entries_on : List ℕ → Volume → ℕ → ℕ → ℕ → ℕ → Counted (List ℕ)
 entries_on image v id place room s = onto (entries_of image v id s) λ es t. after t (fitting_some room (lines_of v.reader image (drop place es)))

@@ -2,7 +2,7 @@
 -- (`lines_start`, `lines_next`, `lines_full` and `lines_over`, proofs/Fitting.antt), and `entries_from` is `entries_on` (proofs/Steps.antt).
 use Rattle.std.specs.Prelude.{ℕ, ◌+◌, List, [], length}
 use Rattle.std.proofs.lemmas.List.Edits.{sets}
-use Rattle.error.specs.Answer.{got, no, if_le}
+use Rattle.error.specs.Answer.{Ok, Err, if_le}
 use Rattle.error.specs.declared.Refusal.TheVariants.{BufferTooShort}
 use Rattle.obj.specs.declared.reader.Reader.{Reader}
 use Rattle.records.specs.declared.directory.Entry.{Entry}
@@ -19,12 +19,12 @@ line_at r image left e = if_le left 0 (entry_line (entry_shown r image e) []) []
 unfoldable pub filled_from : ℕ → ℕ → List ℕ → List ℕ → Filled
 filled_from room n t b =
     if_le (n + length t) room
-    (record { answer = got (n + length t); buffer = sets b n t })
-    (record { answer = no BufferTooShort; buffer = b })
+    (record { answer = Ok (n + length t); buffer = sets b n t })
+    (record { answer = Err BufferTooShort; buffer = b })
 
 -- the lines of es, of which e is the first
 unfoldable pub entries_from : Reader → List ℕ → Entry → List Entry → List ℕ → Filled
 entries_from r image e es b =
     if_le (length (entry_line (entry_shown r image e) [])) (length b)
     (filled (fitting (length b) (lines_of r image es)) b)
-    (record { answer = no BufferTooShort; buffer = b })
+    (record { answer = Err BufferTooShort; buffer = b })

@@ -12,14 +12,14 @@ ghost use Rattle.calls.specs.Filled.{filled_at, called_by, answered};
 ghost use Rattle.entry_lines.specs.Entries.{lines_of, fitting, entries_on, entries_counted};
 ghost use Rattle.entry_lines.specs.Inner.{line_at, filled_from, entries_from};
 
-use calls::Progress;
 use cursor::{Step, first, next};
+use error::Refusal;
 use lines::put_entry_line;
-use lists::{EntryAt, EntryIn, entry_from, entry_in, fewer, search};
+use lists::{Seen, entry_from, entry_in, fewer, search};
+use lookup::Counted;
 use obj::Reader;
 use records::{Entry, entry_name};
-use text::Position;
-use volume::{Volume, VolumeOpening, Which, open_at};
+use volume::{Volume, Which, open_at};
 
 // The line of an entry after n bytes, where it fits; nothing of an entry that is to be passed. No line is longer than 80 bytes and 6 for
 // each byte of its name, so that where as many are left it is not measured first.
@@ -31,21 +31,21 @@ fn put_next(
     reader: Reader,
     left: u64,
     e: Entry,
-) -> Position
+) -> Result<usize, Refusal>
     requires { n ≤ room }
     ensures { filled_at result out.new ≡ filled_from room n (line_at reader image.now left e) out.old }
 {
     if 0 < left {
-        return Position::At(n);
+        return Ok(n);
     }
     if 80 <= room - n {
         if entry_name(reader, image, e).len() <= (room - n - 80) / 6 {
-            return put_entry_line(out, room, Position::At(n), image, reader, e);
+            return put_entry_line(out, room, Ok(n), image, reader, e);
         }
     }
-    match put_entry_line(&mut out[..0], room, Position::At(n), image, reader, e) {
-        Position::No(w) => Position::No(w),
-        Position::At(_) => put_entry_line(out, room, Position::At(n), image, reader, e),
+    match put_entry_line(&mut out[..0], room, Ok(n), image, reader, e) {
+        Err(w) => Err(w),
+        Ok(_) => put_entry_line(out, room, Ok(n), image, reader, e),
     }
 }
 
@@ -71,16 +71,16 @@ fn put_entries(
     loop {
         let at = s.reached;
         match entry_in(image, keys, at, i) {
-            EntryIn::Over => return n,
-            EntryIn::No(_) => return n,
-            EntryIn::Passed => {
+            Seen::Over => return n,
+            Seen::Refused(_) => return n,
+            Seen::Passed => {
                 let c = s.path;
                 s = next(image, q, c, s.level, s.nodes);
                 i = s.from;
             }
-            EntryIn::At(e, after) => match put_next(out, room, n, image, reader, left, e) {
-                Position::No(_) => return n,
-                Position::At(m) => {
+            Seen::Element(e, after) => match put_next(out, room, n, image, reader, left, e) {
+                Err(_) => return n,
+                Ok(m) => {
                     n = m;
                     left = fewer(left);
                     i = after;
@@ -99,49 +99,62 @@ fn entries_from(
     e: Entry,
     start: Step,
     out: &mut [u8],
-) -> Position
+) -> Result<usize, Refusal>
     ensures { filled_at result out.new ≡ entries_from v.reader image.now e (drop place (readable (entry_at (hashed_keys v) v.reader image.now) (run_at image.now (search_of v id 9) start start.from))) out.old }
 {
     let room = out.len();
     let reader = v.reader;
-    match put_entry_line(&mut out[..0], room, Position::At(0), image, reader, e) {
-        Position::No(w) => Position::No(w),
-        Position::At(_) => { Position::At(put_entries(out, room, image, v, id, place, start)) }
+    match put_entry_line(&mut out[..0], room, Ok(0), image, reader, e) {
+        Err(w) => Err(w),
+        Ok(_) => { Ok(put_entries(out, room, image, v, id, place, start)) }
     }
 }
 
 // The whole list is read for its faults, then its lines are written in a second walk.
-fn entries_on(image: &[u8], v: Volume, id: u64, place: u64, nodes: u64, out: &mut [u8]) -> Progress
+fn entries_on(
+    image: &[u8],
+    v: Volume,
+    id: u64,
+    place: u64,
+    nodes: u64,
+    out: &mut [u8],
+) -> Counted<usize>
     ensures { called_by result out.new ≡ answered (entries_on image.now v id place (length out.old) nodes) out.old }
 {
     let start = first(image, search(v, id, 9), nodes);
     let found = entry_from(image, v, id, place, start);
-    let entry = found.entry;
+    let entry = found.answer;
     match entry {
-        EntryAt::Nothing => Progress {
-            at: Position::At(0),
+        Ok(None) => Counted {
+            answer: Ok(0),
             nodes: found.nodes,
         },
-        EntryAt::At(e) => Progress {
-            at: entries_from(image, v, id, place, e, start, out),
+        Ok(Some(e)) => Counted {
+            answer: entries_from(image, v, id, place, e, start, out),
             nodes: found.nodes,
         },
-        EntryAt::No(w) => Progress {
-            at: Position::No(w),
+        Err(w) => Counted {
+            answer: Err(w),
             nodes: found.nodes,
         },
     }
 }
 
-pub fn entries_text(image: &[u8], which: Which, id: u64, place: u64, out: &mut [u8]) -> Progress
+pub fn entries_text(
+    image: &[u8],
+    which: Which,
+    id: u64,
+    place: u64,
+    out: &mut [u8],
+) -> Counted<usize>
     ensures { called_by result out.new ≡ answered (entries_counted image.now which id place (length out.old)) out.old }
 {
     let opened = open_at(image, which);
-    let volume = opened.volume;
+    let volume = opened.answer;
     match volume {
-        VolumeOpening::Got(v) => entries_on(image, v, id, place, opened.nodes, out),
-        VolumeOpening::No(w) => Progress {
-            at: Position::No(w),
+        Ok(v) => entries_on(image, v, id, place, opened.nodes, out),
+        Err(w) => Counted {
+            answer: Err(w),
             nodes: opened.nodes,
         },
     }

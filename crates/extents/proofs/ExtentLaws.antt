@@ -6,11 +6,11 @@ use mathlib.Core.Logic.{◌⊎◌, inl, inr}
 use native.Mathlib.Nat.{le-div_iff_mul-le, div-lt_iff_lt-mul, div-mul-le_self, lt-div-mul-add}
 use native.Mathlib.Omega.{arith}
 use lib.ListN.{length}
-use Rattle.error.specs.Answer.{no}
-use Rattle.error.specs.declared.Refusal.TheVariants.{Io, Corrupt, Overflow}
+use Rattle.error.specs.Answer.{Err}
+use Rattle.error.specs.declared.Refusal.TheVariants.{Io, Overflow}
 use Rattle.error.proofs.Laws.{at_most_lem, above, same, other}
 use Rattle.extents.specs.Verdict.{fine, ◌>>◌}
-use Rattle.extents.specs.Extents.{Disk, end, top, blocks, seek, counted, lies, reach, allows, decide, counted_in}
+use Rattle.extents.specs.Extents.{Disk, end, top, blocks, seek, counted, lies, reach, allows, decide}
 use Rattle.extents.proofs.Verdicts.{was_above, was_other, le_or_gt, passed, went}
 use Rattle.records.specs.declared.extent.Extent.{Extent}
 
@@ -55,29 +55,16 @@ pub record Touched (off stop : ℕ) (e : Extent) : Type 0 where
   pub some : max off e.logical < min stop (end e)
   pub real : 0 < e.phys_block
 
-module _ (d : Disk) (e : Extent) where
-  pub counted_is : e.phys_block + blocks d.block e.len ≤ top → e.phys_block + blocks d.block e.len ≤ d.count → counted d e ≡ fine
-  unfolding counted_in
-  counted_is h k = sym (at_most_lem _ _ _ _ _ h (at_most_lem _ _ _ _ _ k refl))
-
-  pub counted_wide : top < e.phys_block + blocks d.block e.len → counted d e ≡ no Overflow
-  unfolding counted_in
-  counted_wide h = sym (above _ _ _ _ _ h refl)
-
-  pub counted_past : e.phys_block + blocks d.block e.len ≤ top → d.count < e.phys_block + blocks d.block e.len → counted d e ≡ no Corrupt
-  unfolding counted_in
-  counted_past h k = sym (at_most_lem _ _ _ _ _ h (above _ _ _ _ _ k refl))
-
 module _ (d : Disk) (p q : ℕ) where
   pub lies_is : p * d.block ≤ top → q * d.block ≤ length d.image → lies d p q ≡ fine
   unfolding lies
   lies_is h k = sym (at_most_lem _ _ _ _ _ h (at_most_lem _ _ _ _ _ k refl))
 
-  pub lies_wide : top < p * d.block → lies d p q ≡ no Overflow
+  pub lies_wide : top < p * d.block → lies d p q ≡ Err Overflow
   unfolding lies
   lies_wide h = sym (above _ _ _ _ _ h refl)
 
-  pub lies_past : p * d.block ≤ top → length d.image < q * d.block → lies d p q ≡ no Io
+  pub lies_past : p * d.block ≤ top → length d.image < q * d.block → lies d p q ≡ Err Io
   unfolding lies
   lies_past h k = sym (at_most_lem _ _ _ _ _ h (above _ _ _ _ _ k refl))
 

@@ -5,19 +5,14 @@ use mathlib.Core.Bool.{Bool, true, false}
 use mathlib.Core.List.{List, [], ◌∷◌}
 use mathlib.Core.Logic.{◌⊎◌, inl, inr}
 use native.Mathlib.Omega.{arith}
-use borrow.Author.Rules.{rules}
 use lib.Dec.{leb}
-use Rattle.error.specs.Answer.{Answer, got, no, pick, if_le}
-use Rattle.error.specs.declared.Refusal.{Refusal}
+use Rattle.error.specs.Answer.{Answer, Ok, Err, pick, if_le}
 use Rattle.error.specs.declared.Refusal.TheVariants.{Corrupt}
-use Rattle.error.proofs.Laws.{at_most_lem, above, tests}
+use Rattle.error.proofs.Laws.{at_most_lem, above}
 use Rattle.records.specs.declared.extent.Extent.{Extent}
 use Rattle.extents.specs.Verdict.{Verdict, fine, ◌>>◌}
-use Rattle.extents.specs.Ruling.{ruled}
 use Rattle.extents.specs.Extents.{Disk, start, in_order, ascending, seek, allows, decide}
-use Rattle.extents.specs.Inner.{touches, judge_of, both_of, OneMore, closing}
-use Rattle.extents.specs.declared.verdict.Ruling.{Ruling}
-use Rattle.extents.specs.declared.verdict.Ruling.TheVariants.{Fine, No}
+use Rattle.extents.specs.Inner.{touches, judge_of, OneMore, closing}
 use Rattle.extents.specs.declared.deciding.Judging.{Judging}
 use Rattle.extents.proofs.Verdicts.{le_or_gt, passed, assoc}
 use Rattle.extents.proofs.ExtentLaws.{decide_stop, decide_goes, seek_takes, seek_stays}
@@ -29,16 +24,16 @@ since_from d off stop v (e ∷ es) = since_from d off stop (if_le e.logical off 
 
 -- what the pass says, where j is known and es are still to come
 unfoldable pub judging : Disk → ℕ → ℕ → Judging → List Extent → Verdict
-judging d off stop j es = pick j.rises (in_order start j.last es >> since_from d off stop (ruled j.ruling) es) (no Corrupt)
+judging d off stop j es = pick j.rises (in_order start j.last es >> since_from d off stop j.ruling es) (Err Corrupt)
 
 then_fine : (v : Verdict) → (v >> fine) ≡ v
-then_fine (got tt) = refl
-then_fine (no e) = refl
+then_fine (Ok tt) = refl
+then_fine (Err e) = refl
 
 -- what follows a verdict counts only where it is fine
 then_same : {A : Type 0} (v : Verdict) (x y : Answer A) → (v ≡ fine → x ≡ y) → (v >> x) ≡ (v >> y)
-then_same (got tt) x y h = h refl
-then_same (no e) x y h = refl
+then_same (Ok tt) x y h = h refl
+then_same (Err e) x y h = refl
 
 module _ (d : Disk) (off stop : ℕ) where
   -- an ascending list that starts at or past stop is not looked at
@@ -100,7 +95,7 @@ module _ (d : Disk) (off stop : ℕ) where
           rw (seek_stays off best e es h)
           (since_more v e es h ∙ since_later e.logical (v >> touches d off stop e) es h q.1 ∙ assoc v (touches d off stop e) (decide d off stop es) ∙ (rw (decide_one at e es c) at (sym b)))
 
-  pub judging_start : (j : Judging) (es : List Extent) → j ≡ record { last = 0; rises = true; ruling = Fine } → judging d off stop j es ≡ judge_of d off stop es
+  pub judging_start : (j : Judging) (es : List Extent) → j ≡ record { last = 0; rises = true; ruling = fine } → judging d off stop j es ≡ judge_of d off stop es
   unfolding judging judge_of
   judging_start j es q = rw q (then_same (ascending es) _ _ (λ c. since_seek 0 fine es es refl c))
 
@@ -108,11 +103,11 @@ module _ (d : Disk) (off stop : ℕ) where
   unfolding judging in_order since_from
   judging_end j = refl
 
-  order : (m l : ℕ) (b : Bool) (c x : Verdict) → pick b (if_le m l c (no Corrupt) >> x) (no Corrupt) ≡ pick (if_le m l b false) (c >> x) (no Corrupt)
+  order : (m l : ℕ) (b : Bool) (c x : Verdict) → pick b (if_le m l c (Err Corrupt) >> x) (Err Corrupt) ≡ pick (if_le m l b false) (c >> x) (Err Corrupt)
   unfolding if_le
   order m l b c x = go b (leb m l)
     where
-      go : (b t : Bool) → pick b (pick t c (no Corrupt) >> x) (no Corrupt) ≡ pick (pick t b false) (c >> x) (no Corrupt)
+      go : (b t : Bool) → pick b (pick t c (Err Corrupt) >> x) (Err Corrupt) ≡ pick (pick t b false) (c >> x) (Err Corrupt)
       go true true = refl
       go true false = refl
       go false true = refl
@@ -127,22 +122,3 @@ pub seek_past : (off at : ℕ) (best es : List Extent) → off < at → in_order
 unfolding in_order seek
 seek_past off at best [] h c = refl
 seek_past off at best (e ∷ es) h c = seek_stays off best e es (omega (arith, (passed _ _ _ _ _ c).0))
-
--- one extent more, at or before off or past it
-module _ (d : Disk) (off stop : ℕ) (j : Judging) (e : Extent) (up : Bool) (one : Ruling) (q : up ≡ if_le j.last e.logical j.rises false) (p : ruled one ≡ touches d off stop e) where
-  pub more_near : e.logical ≤ off → OneMore d off stop j e (record { last = e.logical; rises = up; ruling = one })
-  more_near h = record { last = refl; rises = q; ruling = at_most_lem _ _ _ _ _ h p }
-
-  pub more_far : (two : Ruling) → off < e.logical → ruled two ≡ both_of (ruled j.ruling) (ruled one) → OneMore d off stop j e (record { last = e.logical; rises = up; ruling = two })
-  more_far two h r = record { last = refl; rises = q; ruling = above _ _ _ _ _ h (rw p at r) }
-
-pub both_no : (a b : Ruling) (w : Refusal) → a ≡ No w → no w ≡ both_of (ruled a) (ruled b)
-both_no a b w q = rw q
-
-pub both_fine : (a b : Ruling) → a ≡ Fine → ruled b ≡ both_of (ruled a) (ruled b)
-both_fine a b q = rw q
-
-pub closing_falls : (j : Judging) → j.rises ≡ false → no Corrupt ≡ closing j
-closing_falls j q = rw q
-
-pub ruleset steps = (rules, tests, more_near, more_far, both_no, both_fine, closing_falls)

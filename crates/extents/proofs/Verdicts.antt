@@ -6,7 +6,7 @@ use mathlib.Core.Logic.{◌⊎◌, inl, inr}
 use lib.Dec.{leb}
 use native.Mathlib.Omega.{arith}
 use borrow.Author.Tests.{le-leb, lt-leb, eq-eqb, ne_eqb, leb-true, leb-false}
-use Rattle.error.specs.Answer.{Answer, got, no, ◌>>=◌, if_le, if_eq, pick}
+use Rattle.error.specs.Answer.{Answer, Ok, Err, ◌>>=◌, if_le, if_eq, pick}
 use Rattle.error.specs.declared.Refusal.{Refusal}
 use Rattle.extents.specs.Verdict.{Verdict, fine, ◌>>◌, at_most}
 
@@ -36,23 +36,23 @@ le_or_gt a b = go (leb a b) refl
     go false e = inr (leb-false a b e)
 
 -- a test that was passed
-pub passed : {A : Type 0} (a b : ℕ) (w : Refusal) (x : Answer A) (y : A) → at_most a b w x ≡ got y → (a ≤ b) × (x ≡ got y)
+pub passed : {A : Type 0} (a b : ℕ) (w : Refusal) (x : Answer A) (y : A) → at_most a b w x ≡ Ok y → (a ≤ b) × (x ≡ Ok y)
 unfolding if_le
 passed a b w x y e = go (leb a b) refl e
   where
-    go : (t : Bool) → leb a b ≡ t → pick t x (no w) ≡ got y → (a ≤ b) × (x ≡ got y)
+    go : (t : Bool) → leb a b ≡ t → pick t x (Err w) ≡ Ok y → (a ≤ b) × (x ≡ Ok y)
     go true q e = (leb-true a b q, e)
     go false q e = absurd (let z : ◌≡◌ {A = ℕ} 0 1 = cc in omega arith)
 
-pub went : {A : Type 0} (v : Verdict) (x : Answer A) (y : A) → (v >> x) ≡ got y → (v ≡ fine) × (x ≡ got y)
-went (got tt) x y e = (refl, e)
-went (no w) x y e = absurd (let z : ◌≡◌ {A = ℕ} 0 1 = cc in omega arith)
+pub went : {A : Type 0} (v : Verdict) (x : Answer A) (y : A) → (v >> x) ≡ Ok y → (v ≡ fine) × (x ≡ Ok y)
+went (Ok tt) x y e = (refl, e)
+went (Err w) x y e = absurd (let z : ◌≡◌ {A = ℕ} 0 1 = cc in omega arith)
 
 -- verdicts one after the other
 pub assoc : {A : Type 0} (v w : Verdict) (x : Answer A) → ((v >> w) >> x) ≡ (v >> (w >> x))
-assoc (got a) w x = refl
-assoc (no e) w x = refl
+assoc (Ok a) w x = refl
+assoc (Err e) w x = refl
 
 pub after_bind : {A B : Type 0} (v : Verdict) (x : Answer A) (f : A → Answer B) → ((v >> x) >>= f) ≡ (v >> (x >>= f))
-after_bind (got a) x f = refl
-after_bind (no e) x f = refl
+after_bind (Ok a) x f = refl
+after_bind (Err e) x f = refl

@@ -1,9 +1,10 @@
 -- The shape of the two walks over a file's extents. A buyer may pass over this file: what `judge` refuses, `judge_of`, is proved to be what `read_at` refuses
 -- (`read_judged`, crates/files/proofs/FileLaws.antt).
-use Rattle.std.specs.Prelude.{ℕ, ◌≡◌, false, List, [], ◌∷◌}
-use Rattle.error.specs.Answer.{Answer, got, no, pick, if_le}
+use Rattle.std.specs.Prelude.{ℕ, ◌≡◌, false, List}
+use Rattle.error.specs.Answer.{Ok, Err, pick, if_le}
 use Rattle.error.specs.declared.Refusal.TheVariants.{Corrupt}
-use Rattle.lookup.specs.Counted.{Counted, after, onto}
+use Rattle.lookup.specs.declared.counted.Counted.{Counted}
+use Rattle.lookup.specs.Counted.{after, onto}
 use Rattle.btree.specs.Scan.{Run}
 use Rattle.btree.specs.declared.entries.Search.{Search}
 use Rattle.cursor.specs.Left.{run_at}
@@ -12,7 +13,6 @@ use Rattle.records.specs.declared.extent.Extent.{Extent}
 use Rattle.lists.specs.Lists.{list_of}
 use Rattle.lists.specs.Inner.{readable}
 use Rattle.extents.specs.Verdict.{Verdict, fine, ◌>>◌}
-use Rattle.extents.specs.Ruling.{ruled}
 use Rattle.extents.specs.Extents.{Disk, disk_of, ascending, since, allows, decide}
 use Rattle.extents.specs.declared.deciding.Judging.{Judging}
 use Rattle.extents.specs.declared.deciding.Judged.{Judged}
@@ -25,24 +25,20 @@ touches d off stop e = if_le stop e.logical fine (allows d off stop e)
 unfoldable pub judge_of : Disk → ℕ → ℕ → List Extent → Verdict
 judge_of d off stop es = ascending es >> decide d off stop (since off es)
 
--- both tests, one after the other
-abbrev pub both_of : Verdict → Verdict → Verdict
-both_of v w = v >> w
-
 -- what j becomes by one extent more: a start at or before off begins the verdict anew
 pub record OneMore (d : Disk) (off stop : ℕ) (j : Judging) (e : Extent) (r : Judging) : Type 0 where
   pub last : r.last ≡ e.logical
   pub rises : r.rises ≡ if_le j.last e.logical j.rises false
-  pub ruling : ruled r.ruling ≡ if_le e.logical off (touches d off stop e) (ruled j.ruling >> touches d off stop e)
+  pub ruling : r.ruling ≡ if_le e.logical off (touches d off stop e) (j.ruling >> touches d off stop e)
 
 -- what j says at the end
 abbrev pub closing : Judging → Verdict
-closing j = pick j.rises (ruled j.ruling) (no Corrupt)
+closing j = pick j.rises j.ruling (Err Corrupt)
 
 -- what the pass answers: what it refuses, or else the extents from its kept entry on
 abbrev pub judged_told : List ℕ → Search → Judged → Counted (List Extent)
-judged_told b q r = after r.nodes (ruled r.ruling >> got (readable (extent_at q.keys.reader b) (run_at b q r.kept r.from)))
+judged_told b q r = after r.nodes (r.ruling >> Ok (readable (extent_at q.keys.reader b) (run_at b q r.kept r.from)))
 
 -- that is: all extents of a run are read, then judged, and those from the last at or before off on are given
 unfoldable pub judged_of : List ℕ → Search → ℕ → ℕ → Run → Counted (List Extent)
-judged_of b q off stop r = onto (list_of (extent_at q.keys.reader b) r) λ es t. after t (judge_of (disk_of q.keys.reader b) off stop es >> got (since off es))
+judged_of b q off stop r = onto (list_of (extent_at q.keys.reader b) r) λ es t. after t (judge_of (disk_of q.keys.reader b) off stop es >> Ok (since off es))

@@ -1,4 +1,3 @@
 pub mod Verdict
 pub mod Extents
-pub mod Ruling
 pub mod Inner

@@ -5,4 +5,4 @@ mod deciding;
 mod verdict;
 
 pub use deciding::{Judged, judge, judge_from};
-pub use verdict::{Ruling, block_size, blocks_in, counted_at, larger, lies_at, smaller};
+pub use verdict::{block_size, blocks_in, counted_at, larger, lies_at, smaller};

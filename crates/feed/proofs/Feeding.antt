@@ -8,16 +8,14 @@ use native.Mathlib.Nat.{zero-min, suc-min-suc}
 use lib.Seq.{take_all, take-nil, drop-cons, length-take-le}
 use native.Mathlib.Omega.{arith}
 use native.Mathlib.Numerals.{add-one}
-use borrow.Author.Rules.{rules}
-use Rattle.error.specs.Answer.{pick}
+use Rattle.std.specs.Result.{is_err}
+use Rattle.error.specs.Answer.{pick, Answer, Ok, Err}
 use Rattle.error.specs.declared.Refusal.{Refusal}
 use Rattle.error.proofs.Laws.{same, other}
 use Rattle.byte_fields.specs.Part.{up_to_zero}
 use Rattle.utf8.specs.Text.{piece_of, size_of}
 use Rattle.utf8.proofs.Pieces.{size_pos, size_within}
 use Rattle.text.specs.Output.{Output, output_of, puts}
-use Rattle.text.specs.declared.Position.{Position}
-use Rattle.text.specs.declared.Position.TheVariants.{No}
 use Rattle.text.proofs.Writing.{puts_append, puts_refused}
 use Rattle.feed.specs.Fed.{written_as, shown_as, waiting, fed, begun, Room}
 use Rattle.feed.specs.declared.window.Window.{Window}
@@ -34,7 +32,7 @@ unfolding up_to_zero
 pick_none true = refl
 pick_none false = refl
 
-pub begins : (marks : Bool) (room : ℕ) (p : Position) (w : Window) (b xs : List ℕ) → waiting w ≡ [] → fed room (record { marks = marks; window = w; ended = false; position = p }) b xs ≡ begun marks room p b xs
+pub begins : (marks : Bool) (room : ℕ) (p : Answer ℕ) (w : Window) (b xs : List ℕ) → waiting w ≡ [] → fed room (record { marks = marks; window = w; ended = false; position = p }) b xs ≡ begun marks room p b xs
 unfolding fed begun
 begins marks room p w b xs h = rw h
 
@@ -45,7 +43,7 @@ module _ (room : ℕ) (f : Feed) where
   ended_any b xs ys h = rw h
 
   -- nor after a refusal
-  pub refused_any : (b xs ys : List ℕ) (e : Refusal) → f.position ≡ No e → fed room f b xs ≡ fed room f b ys
+  pub refused_any : (b xs ys : List ℕ) (e : Refusal) → f.position ≡ Err e → fed room f b xs ≡ fed room f b ys
   unfolding fed
   refused_any b xs ys e h = rw h (puts_refused room _ e ∙ sym (puts_refused room _ e))
 
@@ -56,7 +54,7 @@ module _ (room : ℕ) (f : Feed) where
       rw (h, ← k)
 
   -- a full window's first piece is written, and v is left
-  module _ (b c : List ℕ) (v : Window) (q : Position) (n : ℕ) (l : length f.window.bytes ≡ 4) (k : 4 ≤ f.window.len) (e : n ≡ size_of (piece_of f.window.bytes)) where
+  module _ (b c : List ℕ) (v : Window) (q : Answer ℕ) (n : ℕ) (l : length f.window.bytes ≡ 4) (k : 4 ≤ f.window.len) (e : n ≡ size_of (piece_of f.window.bytes)) where
     pub piece_short : n ≤ 4
     piece_short = omega (arith, e, size_within f.window.bytes)
 
@@ -108,10 +106,12 @@ module _ (room : ℕ) (bytes : List ℕ) (i : ℕ) (g : Feed) (b xs : List ℕ) 
   pub none_count : g.ended ≡ true → fed room g b xs ≡ w
   none_count h = ended_any room g b _ _ h ∙ inv
 
-  pub none_fit : (e : Refusal) → g.position ≡ No e → fed room g b xs ≡ w
-  none_fit e h = refused_any room g b _ _ e h ∙ inv
+  pub none_fit : is_err g.position ≡ true → fed room g b xs ≡ w
+  none_fit h = of g.position refl
+    where
+      of : (p : Answer ℕ) → g.position ≡ p → fed room g b xs ≡ w
+      of (Ok n) k = let z : ◌≡◌ {A = Bool} false true = (rw k at h) in absurd (let y : ◌≡◌ {A = ℕ} 0 1 = cc in omega arith)
+      of (Err e) k = refused_any room g b _ _ e k ∙ inv
 
   pub byte_came : (r : Feed) (c : List ℕ) → i < length bytes → ((ys : List ℕ) → fed room r c ys ≡ fed room g b (get_or bytes i 0 ∷ ys)) → fed room r c (drop (i + 1) bytes ++ xs) ≡ w
   byte_came r c h k = rw add-one (k (drop (suc i) bytes ++ xs) ∙ (rw (drop-cons bytes i 0 h) at inv))
-
-pub ruleset all = (rules, begins, ended_any, zero_ends, piece_short, room_made, byte_waits, no_zeros, zeros_end, finished, count_is, all_came, none_count, none_fit, byte_came)

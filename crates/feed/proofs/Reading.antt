@@ -1,22 +1,20 @@
 -- The pieces of a text, and how the loop over them goes on: the reading of what is left, written from here, is the whole, `w`.
-use Prim.Native.Nat.{ℕ, ◌+◌, ◌-◌, ◌^◌, ◌≤◌, ◌<◌}
+use Prim.Native.Nat.{ℕ, ◌-◌, ◌≤◌, ◌<◌}
 use mathlib.Core.Path.{◌≡◌, refl, sym, ap, ◌∙◌}
 use mathlib.Core.Bool.{Bool, true, false}
 use mathlib.Core.List.{List, [], ◌∷◌, ◌++◌}
-use lib.ListN.{length, take, drop, replicate, length-drop, drop_of_length-le, replicate-append-replicate}
-use lib.Seq.{take_all, length-take-le, drop-drop}
-use mir.Syntax.{w64}
-use mir.Val.{Fits}
-use borrow.Author.Rules.{rules}
+use lib.ListN.{length, take, drop, replicate, length-drop, replicate-append-replicate}
+use lib.Seq.{length-take-le}
 use native.Mathlib.Omega.{arith}
-use native.Mathlib.Nat.{le_of_eq}
 use Rattle.error.specs.Answer.{pick}
 use Rattle.utf8.specs.Text.{piece_of, size_of, one_if_replaced, replacement}
 use Rattle.utf8.specs.declared.Piece.{Piece}
 use Rattle.utf8.specs.declared.Piece.TheVariants.{End, WellFormed, IllFormed}
 use Rattle.utf8.proofs.Pieces.{size_pos, size_within}
-use Rattle.utf8.proofs.Reading.{lossy_end, lossy_next, replaced_end, replaced_next}
-use Rattle.text.specs.Output.{Output, puts}
+use Rattle.utf8.proofs.Reading.{past, past_is, lossy_end, lossy_next, replaced_end, replaced_next}
+use Rattle.error.specs.Answer.{Answer, Ok, Err}
+use Rattle.error.specs.declared.Refusal.{Refusal}
+use Rattle.text.specs.Output.{Output, at, refused, output_of, puts}
 use Rattle.text.proofs.Writing.{puts_append, stopped}
 use Rattle.feed.specs.Fed.{written_as, shown_as}
 
@@ -34,21 +32,6 @@ nothing_put : (room : ℕ) (o : Output) (marks : Bool) → o ≡ puts room (pick
 unfolding puts
 nothing_put room o true = refl
 nothing_put room o false = refl
-
--- what is put of a piece, or of its mark
-pub whole_marked : (room : ℕ) (o : Output) (marks : Bool) (x : List ℕ) → marks ≡ true → o ≡ puts room (pick marks [] x) o
-unfolding puts
-whole_marked room o marks x e = rw e
-
-module _ (room : ℕ) (o z : Output) (marks : Bool) where
-  pub whole_put : (x : List ℕ) → marks ≡ false → z ≡ puts room x o → z ≡ puts room (pick marks [] x) o
-  whole_put x e h = rw e h
-
-  pub mark_put : marks ≡ true → z ≡ puts room (0 ∷ []) o → z ≡ puts room (pick marks (0 ∷ []) replacement) o
-  mark_put e h = rw e h
-
-  pub part_put : marks ≡ false → z ≡ puts room replacement o → z ≡ puts room (pick marks (0 ∷ []) replacement) o
-  part_put e h = rw e h
 
 -- one piece r of b
 module _ (marks : Bool) (room : ℕ) (o : Output) (b : List ℕ) (r : Piece) (e : r ≡ piece_of b) where
@@ -79,30 +62,33 @@ module _ (b : List ℕ) (r : Piece) (e : r ≡ piece_of b) where
     pub whole_count : r ≡ WellFormed n → n ≡ length (take n b)
     whole_count k = sym (length-take-le n b (whole_within k))
 
--- the piece at a place i of b, of n bytes
-module _ (b : List ℕ) (i n : ℕ) (e : n ≡ size_of (piece_of (take (length b - i) (drop i b)))) where
-  rest : take (length b - i) (drop i b) ≡ drop i b
-  rest = take_all (length b - i) (drop i b) (le_of_eq (length-drop i b))
+-- the piece at the head of b, of n bytes
+module _ (b : List ℕ) (n : ℕ) (e : n ≡ size_of (piece_of b)) where
+  pub piece_within : n ≤ length b
+  piece_within = omega (arith, size_within b)
 
-  here : n ≡ size_of (piece_of (drop i b))
-  here = rw rest at e
+  pub piece_less : (length b ≡ 0 → ⊥) → length (past n b) < length b
+  piece_less h =
+      let l : length (past n b) ≡ length b - n = rw (past_is n b) (length-drop n b) in
+      omega (arith, size_within b, size_pos b (omega arith))
 
-  pub piece_within : i < length b → i + n ≤ length b
-  piece_within h = omega (arith, here, size_within (drop i b), length-drop i b)
+  -- the reading of what is left, written from here, is the whole, `w`
+  module _ (marks : Bool) (room : ℕ) (o w : Output) (h : puts room (written_as marks b) o ≡ w) where
+    next : (p : Output) → p ≡ puts room (shown_as marks (piece_of b) b) o → puts room (written_as marks (past n b)) p ≡ w
+    next p k =
+        let q : written_as marks b ≡ shown_as marks (piece_of b) b ++ written_as marks (past n b) = written_next marks b ∙ rw (past_is n b, e) in
+        rw k (sym (puts_append room _ _ o) ∙ (rw q at h))
 
-  pub piece_less : i < length b → length b - (i + n) < length b - i
-  piece_less h = omega (arith, here, size_within (drop i b), size_pos (drop i b) (omega (arith, length-drop i b)), length-drop i b)
+    module _ (q : Answer ℕ) (c : List ℕ) (k : output_of q c ≡ puts room (shown_as marks (piece_of b) b) o) where
+      pub piece_got : (m : ℕ) → q ≡ Ok m → puts room (written_as marks (past n b)) (at c m) ≡ w
+      piece_got m f = next (at c m) (rw f at k)
 
-  pub piece_sum : i < length b → length b < 2 ^ 64 → Fits w64 (i + n)
-  piece_sum h g = omega (arith, piece_within h)
+      pub piece_refused : (x : Refusal) → q ≡ Err x → refused x ≡ w
+      piece_refused x f = stopped room _ q c x w (next (output_of q c) k) f
 
-  pub piece_next : (marks : Bool) (room : ℕ) (o p w : Output) → puts room (written_as marks (drop i b)) o ≡ w → p ≡ puts room (shown_as marks (piece_of (take (length b - i) (drop i b))) (take (length b - i) (drop i b))) o → puts room (written_as marks (drop (i + n) b)) p ≡ w
-  piece_next marks room o p w h k =
-      let q : written_as marks (drop i b) ≡ shown_as marks (piece_of (drop i b)) (drop i b) ++ written_as marks (drop (i + n) b) = written_next marks (drop i b) ∙ rw (← here, drop-drop) in
-      rw k (rw rest (sym (puts_append room _ _ o)) ∙ (rw q at h))
-
-pub pieces_end : (marks : Bool) (room : ℕ) (b : List ℕ) (i : ℕ) (o w : Output) → length b ≤ i → puts room (written_as marks (drop i b)) o ≡ w → o ≡ w
+pub pieces_end : (marks : Bool) (room : ℕ) (b : List ℕ) (o w : Output) → length b ≡ 0 → puts room (written_as marks b) o ≡ w → o ≡ w
 unfolding puts
-pieces_end marks room b i o w k h = rw (drop_of_length-le b k, written_end marks) at h
+pieces_end marks room [] o w k h = rw (written_end marks) at h
+pieces_end marks room (x ∷ b) o w k h = absurd (omega arith)
 
-pub ruleset all = (rules, whole_marked, whole_put, mark_put, part_put, none_written, whole_written, part_written, none_taken, whole_taken, part_taken, whole_within, whole_count, piece_within, piece_less, piece_sum, piece_next, pieces_end, stopped)
+pub ruleset one_piece = (none_written, whole_written, part_written, none_taken, whole_taken, part_taken, whole_count)

@@ -1,14 +1,13 @@
 -- A piece is decided by 4 bytes, so that a window of 4 bytes is read as it will be with what follows it.
-use Prim.Native.Nat.{ℕ, suc, ◌+◌, ◌-◌, ◌≤◌, ◌<◌}
+use Prim.Native.Nat.{ℕ, ◌+◌, ◌≤◌, ◌<◌}
 use mathlib.Core.Path.{◌≡◌, refl, ◌∙◌}
 use mathlib.Core.Bool.{Bool}
 use mathlib.Core.List.{List, [], ◌∷◌, ◌++◌}
 use lib.Dec.{lit≤}
-use lib.ListN.{length, get_or, set, take, drop, length-drop}
-use lib.Seq.{take_all, take-suc, take-suc-set, get_or-drop, take-append-le, drop-append-le}
+use lib.ListN.{length, set, take, drop}
+use lib.Seq.{take-suc-set, take-append-le, drop-append-le}
 use native.Mathlib.Omega.{arith}
 use native.Mathlib.Numerals.{add-one}
-use borrow.Author.Rules.{rules}
 use Rattle.utf8.specs.Text.{Range, Rest, none, then, rest_of, agree, piece_after, piece_of, size_of, shown}
 use Rattle.utf8.specs.declared.Piece.{Piece}
 use Rattle.utf8.specs.declared.Piece.TheVariants.{End, WellFormed, IllFormed}
@@ -19,17 +18,6 @@ use Rattle.feed.proofs.Reading.{written_next}
 -- a byte after the n bytes of a window
 pub one_more : (w : List ℕ) (n x : ℕ) → n < length w → take (n + 1) (set w n x) ≡ take n w ++ (x ∷ [])
 one_more w n x h = rw add-one (take-suc-set w n x h)
-
--- the bytes of w from n on, moved to the front of v
-module _ (w v : List ℕ) (n i : ℕ) (h : length w ≡ 4) (l : n ≤ 4) where
-  pub moved_next : length v ≡ 4 → i < 4 - n → take i v ≡ take i (drop n w) → take (i + 1) (set v i (get_or w (n + i) 0)) ≡ take (i + 1) (drop n w)
-  moved_next g k e =
-      let m : i < length (drop n w) = omega (arith, length-drop n w) in
-      let q : take (suc i) (drop n w) ≡ take i (drop n w) ++ (get_or w (n + i) 0 ∷ []) = take-suc (drop n w) i 0 m ∙ rw get_or-drop in
-      rw (add-one, take-suc-set v i _ (omega arith), q, e)
-
-  pub moved_all : i ≤ 4 - n → 4 - n ≤ i → take i v ≡ take i (drop n w) → take i v ≡ drop n w
-  moved_all k g e = e ∙ take_all i (drop n w) (omega (arith, length-drop n w))
 
 Short : Rest → Type 0
 Short none = Unit
@@ -72,5 +60,3 @@ shown_front w x (IllFormed n) h = refl
 pub written_front : (marks : Bool) (w x : List ℕ) → 4 ≤ length w → written_as marks (w ++ x) ≡ shown_as marks (piece_of w) w ++ written_as marks (drop (size_of (piece_of w)) w ++ x)
 written_front marks w x h =
     written_next marks (w ++ x) ∙ rw (piece_front w x h, shown_front w x (piece_of w) (size_within w), drop-append-le (size_of (piece_of w)) w x (size_within w))
-
-pub ruleset windows = (rules, refl, one_more, moved_next, moved_all)

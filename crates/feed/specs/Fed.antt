@@ -1,12 +1,11 @@
 -- The lossy reading of bytes that come one after the other, up to the first zero byte, or the parts of it that are replaced. Document 01, bytes.rs:
 -- "`cstr` stops at the first zero byte or the end and reads lossily"; document 02, request 02.
 use Rattle.std.specs.Prelude.{ℕ, ◌<◌, ◌≡◌, Bool, List, [], ◌++◌, take, replicate}
-use Rattle.error.specs.Answer.{pick}
+use Rattle.error.specs.Answer.{pick, Answer}
 use Rattle.byte_fields.specs.Part.{up_to_zero}
 use Rattle.utf8.specs.Text.{lossy, replaced, shown, one_if_replaced}
 use Rattle.utf8.specs.declared.Piece.{Piece}
 use Rattle.text.specs.Output.{Output, output_of, puts}
-use Rattle.text.specs.declared.Position.{Position}
 use Rattle.feed.specs.declared.window.Window.{Window}
 use Rattle.feed.specs.declared.feed.Feed.{Feed}
 
@@ -27,7 +26,7 @@ unfoldable pub fed : ℕ → Feed → List ℕ → List ℕ → Output
 fed room f out xs = puts room (written_as f.marks (waiting f.window ++ pick f.ended [] (up_to_zero xs))) (output_of f.position out)
 
 -- the same where no byte has come yet
-unfoldable pub begun : Bool → ℕ → Position → List ℕ → List ℕ → Output
+unfoldable pub begun : Bool → ℕ → Answer ℕ → List ℕ → List ℕ → Output
 begun marks room p out xs = puts room (written_as marks (up_to_zero xs)) (output_of p out)
 
 -- r with its buffer is f with its own, and has room in its window

@@ -5,7 +5,7 @@ ghost use Rattle.feed.specs.Fed.{fed, begun, Room};
 
 use crate::pieces::{put_piece, put_pieces};
 use crate::window::{Window, count, empty, with, without};
-use text::Position;
+use error::Refusal;
 
 // `ended`: a zero byte came, and nothing after it counts. `marks`: no text is written, but a zero byte for each part of it that is replaced.
 #[derive(Clone, Copy)]
@@ -13,10 +13,11 @@ pub struct Feed {
     pub marks: bool,
     pub window: Window,
     pub ended: bool,
-    pub position: Position,
+    pub position: Result<usize, Refusal>,
 }
 
-pub fn begin(p: Position, marks: bool) -> Feed
+#[tactic(auto, using(crate::proofs::Feeding::begins))]
+pub fn begin(p: Result<usize, Refusal>, marks: bool) -> Feed
     ensures { (room : ℕ) (b xs : List ℕ) → fed room result b xs ≡ begun marks room p b xs }
 {
     Feed {
@@ -28,26 +29,24 @@ pub fn begin(p: Position, marks: bool) -> Feed
 }
 
 // Room for one byte more: of a full window the first piece is written.
+#[tactic(auto, using(crate::proofs::Feeding::room_made))]
 fn make_room(out: &mut [u8], room: usize, f: Feed) -> Feed
     ensures { Room room f out.old result out.new }
 {
     let w = f.window;
-    let p = f.position;
     if w.len < 4 {
         return f;
     }
-    let bytes = w.bytes;
-    let s = put_piece(out, room, p, &bytes[..], f.marks);
-    let q = s.position;
+    let s = put_piece(out, room, f.position, &w.bytes, f.marks);
     Feed {
-        marks: f.marks,
         window: without(w, s.taken),
-        ended: f.ended,
-        position: q,
+        position: s.position,
+        ..f
     }
 }
 
 // One byte more.
+#[tactic(auto, using(crate::proofs::Feeding::ended_any, crate::proofs::Feeding::zero_ends, crate::proofs::Feeding::byte_waits))]
 pub fn push(out: &mut [u8], room: usize, f: Feed, b: u8) -> Feed
     ensures { (xs : List ℕ) → fed room result out.new xs ≡ fed room f out.old (b ∷ xs) }
 {
@@ -55,23 +54,12 @@ pub fn push(out: &mut [u8], room: usize, f: Feed, b: u8) -> Feed
         return f;
     }
     if b == 0 {
-        let w = f.window;
-        let p = f.position;
-        return Feed {
-            marks: f.marks,
-            window: w,
-            ended: true,
-            position: p,
-        };
+        return Feed { ended: true, ..f };
     }
     let g = make_room(out, room, f);
-    let w = g.window;
-    let p = g.position;
     Feed {
-        marks: g.marks,
-        window: with(w, b),
-        ended: g.ended,
-        position: p,
+        window: with(g.window, b),
+        ..g
     }
 }
 
@@ -79,24 +67,17 @@ pub fn push_all(out: &mut [u8], room: usize, f: Feed, bytes: &[u8]) -> Feed
     ensures { (xs : List ℕ) → fed room result out.new xs ≡ fed room f out.old (bytes.now ++ xs) }
 {
     let mut g = f;
-    let mut i = 0;
-    while i < bytes.len() {
-        if g.ended {
+    for b in bytes {
+        if g.ended || g.position.is_err() {
             return g;
         }
-        let p = g.position;
-        match p {
-            Position::No(_) => return g,
-            Position::At(_) => {
-                g = push(out, room, g, bytes[i]);
-                i += 1;
-            }
-        }
+        g = push(out, room, g, *b);
     }
     g
 }
 
 // The first of them ends the text.
+#[tactic(auto, using(crate::proofs::Feeding::no_zeros, crate::proofs::Feeding::zeros_end))]
 pub fn push_zeros(out: &mut [u8], room: usize, f: Feed, n: u64) -> Feed
     ensures { (xs : List ℕ) → fed room result out.new xs ≡ fed room f out.old (replicate n 0 ++ xs) }
 {
@@ -107,12 +88,10 @@ pub fn push_zeros(out: &mut [u8], room: usize, f: Feed, n: u64) -> Feed
 }
 
 // No more bytes come: what waits is written.
-pub fn finish(out: &mut [u8], room: usize, f: Feed) -> Position
+#[tactic(auto, using(crate::proofs::Feeding::finished, crate::proofs::Feeding::count_is))]
+pub fn finish(out: &mut [u8], room: usize, f: Feed) -> Result<usize, Refusal>
     ensures { output_of result out.new ≡ fed room f out.old [] }
 {
     let w = f.window;
-    let p = f.position;
-    let bytes = w.bytes;
-    let n = count(w);
-    put_pieces(out, room, p, &bytes[..n], f.marks)
+    put_pieces(out, room, f.position, &w.bytes[..count(w)], f.marks)
 }

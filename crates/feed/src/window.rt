@@ -22,22 +22,21 @@ pub fn empty() -> Window
 pub fn count(w: Window) -> usize
     ensures { result ≡ min w.len (length w.bytes) }
 {
-    if 4 < w.len {
-        return 4;
-    }
-    w.len
+    w.len.min(w.bytes.len())
 }
 
 // One byte more.
+#[tactic(auto, using(crate::proofs::Windows::one_more))]
 pub fn with(w: Window, b: u8) -> Window
     requires { w.len < 4 }
     ensures { waiting result ≡ waiting w ++ (b ∷ []) }
 {
-    let n = w.len;
-    let mut r = w;
-    r.bytes[n] = b;
-    r.len = n + 1;
-    r
+    let mut bytes = w.bytes;
+    bytes[w.len] = b;
+    Window {
+        bytes: bytes,
+        len: w.len + 1,
+    }
 }
 
 // A full window without its first n bytes.
@@ -45,12 +44,10 @@ pub fn without(w: Window, n: usize) -> Window
     requires { n ≤ 4 }
     ensures { (waiting result ≡ drop n w.bytes) × (result.len ≡ 4 - n) }
 {
-    let mut r = w;
-    let mut i = 0;
-    while i < 4 - n {
-        r.bytes[i] = w.bytes[n + i];
-        i += 1;
+    let mut bytes = w.bytes;
+    bytes[..4 - n].copy_from_slice(&w.bytes[n..]);
+    Window {
+        bytes: bytes,
+        len: 4 - n,
     }
-    r.len = i;
-    r
 }

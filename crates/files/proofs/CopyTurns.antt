@@ -2,6 +2,7 @@
 use Prim.Native.Nat.{ℕ, ◌+◌, ◌≤◌, ◌<◌}
 use mathlib.Core.Path.{◌≡◌, refl, sym, ◌∙◌}
 use mathlib.Core.List.{List, [], ◌∷◌}
+use mathlib.Core.Logic.{◌⊎◌, inl, inr}
 use lib.ListN.{length, replicate, length-replicate}
 use native.Mathlib.Omega.{arith}
 use borrow.Author.Rules.{rules}
@@ -16,10 +17,11 @@ use Rattle.extents.specs.Verdict.{fine}
 use Rattle.extents.specs.Extents.{Disk, disk_of, start, in_order, ascending, allows, decide}
 use Rattle.files.specs.Inner.{lay, Ready}
 use Rattle.lists.specs.Inner.{readable}
-use Rattle.lists.specs.Seen.{Seen, over, element, refusal, seen_in}
-use Rattle.lists.specs.Seen as seen
+use Rattle.lists.specs.declared.seen.Seen.{Seen}
+use Rattle.lists.specs.declared.seen.Seen.TheVariants.{Over, Element, Refused}
+use Rattle.lists.specs.Seen.{seen_in}
+use Rattle.lists.specs.declared.seen.Seen.TheVariants as seen
 use Rattle.lists.proofs.Reading.{less_at, less_passed, readable_over, readable_no, readable_at, readable_passed}
-use Rattle.lists.proofs.Turns.{seens}
 use Rattle.extents.proofs.Verdicts.{passed, went}
 use Rattle.extents.proofs.ExtentLaws.{decide_goes}
 use Rattle.files.proofs.CopyLaws.{lay_none, lay_halt, lay_cons, lay_length}
@@ -67,17 +69,21 @@ module _ (b : List ℕ) (q : Search) (off m : ℕ) (s : Step) (i : ℕ) (out who
   Filling = Laying (disk_of q.keys.reader b) off m (readable (extent_at q.keys.reader b) (run_at b q s i)) out whole
 
   module _ (l : Filling) (x : Seen Extent) (k : x ≡ seen_in (extent_at q.keys.reader b) (in_step b q s.reached i)) where
-    pub fill_over : x ≡ over → out ≡ whole
+    fill_over : x ≡ Over → out ≡ whole
     fill_over y = done (disk_of q.keys.reader b) off m out whole (rw (readable_over (extent_at q.keys.reader b) b q s i x k y) at l)
 
-    pub fill_no : (w : Refusal) → x ≡ refusal w → out ≡ whole
+    fill_no : (w : Refusal) → x ≡ Refused w → out ≡ whole
     fill_no w y = done (disk_of q.keys.reader b) off m out whole (rw (readable_no (extent_at q.keys.reader b) b q s i x k w y) at l)
 
-    pub fill_passed : x ≡ seen.passed → (t : Step) → Begins b q t (left b q s.path s.level s.nodes) →
+    pub fill_ends : (x ≡ Over) ⊎ ((w : Refusal) × (x ≡ Refused w)) → out ≡ whole
+    fill_ends (inl y) = fill_over y
+    fill_ends (inr (w, y)) = fill_no w y
+
+    pub fill_passed : x ≡ seen.Passed → (t : Step) → Begins b q t (left b q s.path s.level s.nodes) →
         Laying (disk_of q.keys.reader b) off m (readable (extent_at q.keys.reader b) (run_at b q t t.from)) out whole
     fill_passed y t g = rw (readable_passed (extent_at q.keys.reader b) b q s i x k t y g) l
 
-    module _ (e : Extent) (a : ℕ) (y : x ≡ element e a) where
+    module _ (e : Extent) (a : ℕ) (y : x ≡ Element e a) where
       held : Laying (disk_of q.keys.reader b) off m (e ∷ readable (extent_at q.keys.reader b) (run_at b q s a)) out whole
       held = rw (readable_at (extent_at q.keys.reader b) b q s i x k e a y) at l
 
@@ -99,4 +105,4 @@ module _ (d : Disk) (off k : ℕ) (es : List Extent) (clear : List ℕ) (h : cle
   pub fill_whole : (out : List ℕ) → out ≡ lay d off es clear → out ≡ lay d off es (replicate k 0)
   fill_whole out e = rw h at e
 
-pub ruleset fills = (rules, seens, less_at, less_passed, fill_start, fill_whole, fill_over, fill_no, fill_passed, fill_halt, fill_allows, fill_next)
+pub ruleset fills = (rules, less_at, less_passed, fill_start, fill_whole, fill_ends, fill_passed, fill_halt, fill_allows, fill_next)

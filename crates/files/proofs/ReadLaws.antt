@@ -7,7 +7,7 @@ use native.Mathlib.Nat.{mul-le-mul_right, zero-add}
 use native.Mathlib.Omega.{arith}
 use lib.ListN.{length, take, drop, drop_of_length-le}
 use lib.Seq.{take-nil, drop-drop, take-add}
-use Rattle.error.specs.Answer.{got}
+use Rattle.error.specs.Answer.{Answer, Ok}
 use Rattle.error.proofs.Laws.{at_most_lem, above}
 use Rattle.extents.specs.Verdict.{fine}
 use Rattle.extents.specs.Extents.{Disk, start, end, in_order, apart, ascending, seek, since, counted, reach, allows, decide}
@@ -126,22 +126,22 @@ module _ (d : Disk) (off i : ℕ) (h : off ≤ i) where
 -- ---- reads
 
 module _ (d : Disk) (size : ℕ) (es : List Extent) (off len : ℕ) where
-  pub read_past : ascending es ≡ fine → size ≤ off → read_at d size es off len ≡ got []
+  pub read_past : ascending es ≡ fine → size ≤ off → read_at d size es off len ≡ Ok []
   unfolding read_at
   read_past c h = rw c (sym (at_most_lem _ _ _ _ _ h refl))
 
   pub read_is : ascending es ≡ fine → off < size → decide d off (off + min len (size - off)) (since off es) ≡ fine
-      → read_at d size es off len ≡ got (bytes d es off (min len (size - off)))
+      → read_at d size es off len ≡ Ok (bytes d es off (min len (size - off)))
   unfolding read_at
   read_is c h w = rw c (sym (above _ _ _ _ _ h (rw w)))
 
-  pub read_was : (bs : List ℕ) → off < size → read_at d size es off len ≡ got bs
-      → (decide d off (off + min len (size - off)) (since off es) ≡ fine) × (got (bytes d es off (min len (size - off))) ≡ got bs)
+  pub read_was : (bs : List ℕ) → off < size → read_at d size es off len ≡ Ok bs
+      → (decide d off (off + min len (size - off)) (since off es) ≡ fine) × (◌≡◌ {A = Answer _} (Ok (bytes d es off (min len (size - off)))) (Ok bs))
   unfolding read_at
-  read_was bs h e = went _ _ _ (was_above _ _ (got []) _ _ h (went (ascending es) _ _ e).1)
+  read_was bs h e = went _ _ _ (was_above _ _ (Ok []) _ _ h (went (ascending es) _ _ e).1)
 
   -- the answer is exactly as long as what there is
-  pub read_length : (bs : List ℕ) → read_at d size es off len ≡ got bs → length bs ≡ min len (size - off)
+  pub read_length : (bs : List ℕ) → read_at d size es off len ≡ Ok bs → length bs ≡ min len (size - off)
   unfolding read_at bytes
   read_length bs e = go (le_or_gt size off)
     where
@@ -153,17 +153,17 @@ module _ (d : Disk) (size : ℕ) (es : List Extent) (off len : ℕ) where
           let q : bs ≡ bytes d es off (min len (size - off)) = cc (read_was bs h e).1 in
           rw q (span_length _ _ _)
 
-module _ (d : Disk) (size : ℕ) (es : List Extent) (bs : List ℕ) (pos : 0 < d.block) (small : length d.image ≤ 2 ^ 64) (all : read_all d size es ≡ got bs) where
+module _ (d : Disk) (size : ℕ) (es : List Extent) (bs : List ℕ) (pos : 0 < d.block) (small : length d.image ≤ 2 ^ 64) (all : read_all d size es ≡ Ok bs) where
   all_length : length bs ≡ size
   unfolding read_all
   all_length = read_length d size es 0 size bs (went (apart es) _ _ all).1 ∙ omega arith
 
   -- THE LAW
-  pub read_part : (off len : ℕ) → read_at d size es off len ≡ got (take len (drop off bs))
+  pub read_part : (off len : ℕ) → read_at d size es off len ≡ Ok (take len (drop off bs))
   unfolding read_all bytes
   read_part off len = go (le_or_gt size off)
     where
-      a : (apart es ≡ fine) × (read_at d size es 0 size ≡ got bs)
+      a : (apart es ≡ fine) × (read_at d size es 0 size ≡ Ok bs)
       a = went (apart es) _ _ all
 
       n : ℕ
@@ -172,7 +172,7 @@ module _ (d : Disk) (size : ℕ) (es : List Extent) (bs : List ℕ) (pos : 0 < d
       up : ascending es ≡ fine
       up = apart_ascend 0 0 es (omega arith) a.0
 
-      go : (size ≤ off) ⊎ (off < size) → read_at d size es off len ≡ got (take len (drop off bs))
+      go : (size ≤ off) ⊎ (off < size) → read_at d size es off len ≡ Ok (take len (drop off bs))
       go (inl h) =
           let q : drop off bs ≡ [] = drop_of_length-le bs {i = off} (omega (arith, all_length)) in
           read_past d size es off len up h ∙ rw (q, take-nil)
@@ -183,11 +183,11 @@ module _ (d : Disk) (size : ℕ) (es : List Extent) (bs : List ℕ) (pos : 0 < d
           let q : bs ≡ bytes d es 0 size = cc (rw m at w.1) in
           read_is d size es off len up h
           (decide_part d size off (off + n) pos small (omega arith) (since off es) (seek_allowed d size off h es es v v))
-          ∙ rw q (ap got (sym (span_part _ _ size off len
+          ∙ rw q (ap Ok (sym (span_part _ _ size off len
           (λ i b. since_byte d 0 i (omega arith) es a.0 ∙ sym (since_byte d off i b es a.0)))))
 
   -- two reads side by side are one
-  pub read_split : (off m n : ℕ) (xs ys : List ℕ) → read_at d size es off m ≡ got xs → read_at d size es (off + m) n ≡ got ys → read_at d size es off (m + n) ≡ got (xs ++ ys)
+  pub read_split : (off m n : ℕ) (xs ys : List ℕ) → read_at d size es off m ≡ Ok xs → read_at d size es (off + m) n ≡ Ok ys → read_at d size es off (m + n) ≡ Ok (xs ++ ys)
   read_split off m n xs ys p q =
       let x : xs ≡ take m (drop off bs) = cc (read_part off m) in
       let y : ys ≡ take n (drop (off + m) bs) = cc (read_part (off + m) n) in

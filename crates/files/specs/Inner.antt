@@ -1,9 +1,9 @@
 -- The shape of the copying pass. A buyer may pass over this file: `lay` over zeros is what `bytes` says (`lay_start`, proofs/CopyLaws.antt), and `read_over` over
 -- the extents of a file is what `read_file` says (`file_read`, proofs/FileLaws.antt).
-use Rattle.std.specs.Prelude.{ℕ, ◌+◌, ◌-◌, ◌≡◌, List, length, get_or, drop}
-use Rattle.std.proofs.Math.Seq.{paste}
+use Rattle.std.specs.Prelude.{ℕ, ◌+◌, ◌-◌, ◌≡◌, List, length, get_or}
 use Rattle.error.specs.Answer.{if_le}
-use Rattle.lookup.specs.Counted.{Counted, after, onto}
+use Rattle.lookup.specs.declared.counted.Counted.{Counted}
+use Rattle.lookup.specs.Counted.{after, onto}
 use Rattle.btree.specs.Scan.{scan_of}
 use Rattle.btree.specs.declared.entries.Search.{Search}
 use Rattle.records.specs.Extent.{extent_at}
@@ -16,10 +16,6 @@ use Rattle.files.specs.Read.{byte_at, span, read_at}
 -- the buffer b, which holds the bytes of the file from off on, once es are copied over it
 unfoldable pub lay : Disk → ℕ → List Extent → List ℕ → List ℕ
 lay d off es b = span (λ i. byte_at d i es (get_or b (i - off) 0)) off (length b)
-
--- b with the n bytes of s at f put over those at `at`
-unfoldable pub pasted : List ℕ → ℕ → List ℕ → ℕ → ℕ → List ℕ
-pasted b at s f n = paste b at (drop f s) n
 
 -- the extents were decided upon, and their starts ascend
 pub record Ready (d : Disk) (off stop : ℕ) (es : List Extent) : Type 0 where

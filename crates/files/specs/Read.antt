@@ -1,7 +1,7 @@
 -- A file read over a list of extents: what is refused, and the bytes. Document 01, "Records", "Reads: ..", and "Answers other than success";
 -- fs.rs, `read_extents_at`.
 use Rattle.std.specs.Prelude.{ℕ, zero, suc, ◌+◌, ◌*◌, ◌-◌, min, List, [], ◌∷◌, get_or}
-use Rattle.error.specs.Answer.{Answer, got, if_le, if_eq}
+use Rattle.error.specs.Answer.{Answer, Ok, if_le, if_eq}
 use Rattle.extents.specs.Verdict.{◌>>◌}
 use Rattle.extents.specs.Extents.{Disk, end, ascending, apart, since, decide}
 use Rattle.records.specs.declared.extent.Extent.{Extent}
@@ -32,7 +32,7 @@ bytes d es off n = span (λ i. byte_at d i (since off es) 0) off n
 unfoldable pub read_at : Disk → ℕ → List Extent → ℕ → ℕ → Answer (List ℕ)
 read_at d size es off len =
     let n : ℕ = min len (size - off) in
-    ascending es >> if_le size off (got []) (decide d off (off + n) (since off es) >> got (bytes d es off n))
+    ascending es >> if_le size off (Ok []) (decide d off (off + n) (since off es) >> Ok (bytes d es off n))
 
 -- the whole file, as the listing reads it: first the test on ends, of every extent and whatever the size; then a read of all bytes
 unfoldable pub read_all : Disk → ℕ → List Extent → Answer (List ℕ)

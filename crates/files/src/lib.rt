@@ -4,4 +4,4 @@
 mod copy;
 mod read;
 
-pub use read::{FileRead, read_at, size_of};
+pub use read::{read_at, size_of};

@@ -6,17 +6,15 @@ use native.Mathlib.Decide.{dec_le}
 use native.Mathlib.Nat.{add-zero}
 use native.Mathlib.Omega.{arith}
 use lib.ListN.{length, set}
-use Rattle.error.specs.Answer.{Answer, got, no, if_le}
+use Rattle.error.specs.Answer.{Answer, Ok, Err, if_le}
 use Rattle.error.specs.declared.Refusal.{Refusal}
 use Rattle.error.specs.declared.Refusal.TheVariants.{BufferTooShort}
 use Rattle.error.proofs.Laws.{at_most_lem, above}
-use Rattle.lookup.specs.Counted.{Counted, after}
+use Rattle.lookup.specs.declared.counted.Counted.{Counted}
+use Rattle.lookup.specs.Counted.{after}
 use Rattle.text.specs.Output.{Output, at, refused, output_of, put, puts}
-use Rattle.text.specs.declared.Position.{Position}
-use Rattle.text.specs.declared.Position.TheVariants.{At, No}
 use Rattle.text.proofs.Writing.{puts_append, puts_refused}
 use Rattle.calls.specs.Nodes.{capped}
-use Rattle.calls.specs.declared.Progress.{Progress}
 use Rattle.calls.proofs.Counts.{plus_none}
 use Rattle.demand.specs.Trace.{End, done, stop, Trace}
 use Rattle.forms.specs.Course.{Deed, through, line, Course, writes, goes_on, ◌and_then◌, read_as, readings, text_in, trace_in, spent}
@@ -67,21 +65,21 @@ go_writes room t s o h = ap (λ (x : Output). record { output = x; nodes = s.nod
 -- ---- a reading
 
 module _ {A : Type 0} (c : Counted A) (f : A → Course) (room : ℕ) (s : Stand) where
-  pub read_got : (x : A) → c.answer ≡ got x → go room (readings c f) s ≡ go room (f x) (reads c s)
+  pub read_got : (x : A) → c.answer ≡ Ok x → go room (readings c f) s ≡ go room (f x) (reads c s)
   unfolding readings reads go go_through deed
   read_got x e = rw e
 
-  pub read_no : (w : Refusal) → c.answer ≡ no w → go room (readings c f) s ≡ reads c s
+  pub read_no : (w : Refusal) → c.answer ≡ Err w → go room (readings c f) s ≡ reads c s
   unfolding readings reads go go_through deed
   read_no w e = rw e
 
 -- what was refused in it stays
-pub reads_stays : {A : Type 0} (c : Counted A) (room : ℕ) (d : Course) (s : Stand) (w : Refusal) → c.answer ≡ no w → go room d (reads c s) ≡ reads c s
+pub reads_stays : {A : Type 0} (c : Counted A) (room : ℕ) (d : Course) (s : Stand) (w : Refusal) → c.answer ≡ Err w → go room d (reads c s) ≡ reads c s
 unfolding reads
 reads_stays c room d s w e = rw e (go_stopped room d w s.output (passes c.nodes s).nodes)
 
 -- and nothing more is read
-pub reads_over : {A B : Type 0} (d : Counted B) (c : Counted A) (w : Refusal) → c.answer ≡ no w → (s : Stand) → reads d (reads c s) ≡ reads c s
+pub reads_over : {A B : Type 0} (d : Counted B) (c : Counted A) (w : Refusal) → c.answer ≡ Err w → (s : Stand) → reads d (reads c s) ≡ reads c s
 unfolding reads
 reads_over d c w e s = rw e (of s.output (passes c.nodes s).nodes)
   where
@@ -94,11 +92,11 @@ unfolding reads
 reads_settled {A} c s = of c.answer
   where
     of : (a : Answer A) → reads (settled (after c.nodes a)) s ≡ reads (after c.nodes a) s
-    of (got x) = refl
-    of (no e) = refl
+    of (Ok x) = refl
+    of (Err e) = refl
 
 -- one that goes through no node
-pub reads_none : {A : Type 0} (x : A) (s : Stand) → s.nodes < 2 ^ 64 → reads (after 0 (got x)) s ≡ s
+pub reads_none : {A : Type 0} (x : A) (s : Stand) → s.nodes < 2 ^ 64 → reads (after 0 (Ok x)) s ≡ s
 unfolding reads
 reads_none x s h = of s.output
   where
@@ -108,9 +106,9 @@ reads_none x s h = of s.output
 
 -- ---- of a position
 
-module _ (p : Progress) where
+module _ (p : Counted ℕ) where
   -- after a refusal
-  pub stays_no : (room : ℕ) (c : Course) (w : Refusal) (b : List ℕ) → p.at ≡ No w → stand_of p b ≡ go room c (stand_of p b)
+  pub stays_no : (room : ℕ) (c : Course) (w : Refusal) (b : List ℕ) → p.answer ≡ Err w → stand_of p b ≡ go room c (stand_of p b)
   stays_no room c w b e = rw e (sym (go_shut room c w p.nodes))
 
 -- ---- what is left

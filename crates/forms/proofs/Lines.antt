@@ -3,12 +3,13 @@ use Prim.Native.Nat.{ℕ, ◌^◌, ◌<◌}
 use mathlib.Core.Path.{◌≡◌, refl, sym, ap, ◌∙◌}
 use mathlib.Core.List.{List, [], ◌++◌}
 use borrow.Author.Rules.{rules}
-use Rattle.error.specs.Answer.{Answer, got, no}
+use Rattle.error.specs.Answer.{Answer, Ok, Err}
 use Rattle.error.specs.declared.Refusal.{Refusal}
 use Rattle.error.proofs.Laws.{same, other}
 use Rattle.byte_fields.specs.declared.Span.{Span}
 use Rattle.obj.specs.declared.reader.Reader.{Reader}
-use Rattle.lookup.specs.Counted.{Counted, after, onto}
+use Rattle.lookup.specs.declared.counted.Counted.{Counted}
+use Rattle.lookup.specs.Counted.{after, onto}
 use Rattle.utf8.specs.Text.{lossy}
 use Rattle.text.specs.Output.{Output, puts}
 use Rattle.text.specs.Words.{ascii, pairs}
@@ -23,11 +24,8 @@ use Rattle.records.specs.declared.attribute.StreamData.{StreamData}
 use Rattle.inode_record.specs.declared.inode.Inode.{Inode}
 use Rattle.files.specs.File.{size_of, read_plain}
 use Rattle.inode_record.specs.Inode.{compressed}
-use Rattle.extents.specs.Ruling.{ruled}
-use Rattle.extents.specs.declared.verdict.Ruling.{Ruling}
-use Rattle.streams.specs.Streams.{settled_told, settled_of, stream_of}
+use Rattle.streams.specs.Streams.{settled_of, stream_of}
 use Rattle.streams.specs.Inner.{run_bytes, stream_bytes}
-use Rattle.streams.specs.declared.settle.Settled.{Settled}
 use Rattle.streams.proofs.Contents.{stream_settled}
 use Rattle.contents.specs.Inner.{whole_from}
 use Rattle.contents.proofs.Laws.{whole_begun}
@@ -47,9 +45,7 @@ use Rattle.lines.specs.Shown as shown
 use Rattle.lines.specs.Lines.{attribute_line, contents_line}
 use Rattle.lines.specs.Inner.{attribute_head}
 use Rattle.lines.proofs.After.{attribute_texts}
-use Rattle.calls.specs.declared.Progress.{Progress}
 use Rattle.text.specs.Output.{output_of}
-use Rattle.text.specs.declared.Position.TheVariants.{No}
 use Rattle.forms.specs.Course.{Course, writes, readings, attribute_course, data_course}
 use Rattle.forms.specs.Inner.{Stand, stand_of, go, reads, stream_course, plain_course}
 use Rattle.forms.proofs.Going.{go_writes, read_got, reads_none, stays_no}
@@ -88,69 +84,69 @@ pub other_extents : (b : List ℕ) (v : Volume) (n k : ℕ) (q : Search) (t : St
 other_extents b v n k q t e g = rw e at g
 
 -- after a reading that was settled, the line of what is read
-module _ (room : ℕ) (s : Settled) (p q : Progress) (l : List ℕ) (k : (m : List ℕ) → stand_of q m ≡ reads (settled_told s) (stand_of p m)) where
-  module _ (c : Counted (List ℕ)) (t : List ℕ → List ℕ) (y : List ℕ) (e : c ≡ (onto (settled_told s) λ u n. after n (got y))) where
+module _ (room : ℕ) (s : Counted (Unit {0})) (p q : Counted ℕ) (l : List ℕ) (k : (m : List ℕ) → stand_of q m ≡ reads s (stand_of p m)) where
+  module _ (c : Counted (List ℕ)) (t : List ℕ → List ℕ) (y : List ℕ) (e : c ≡ (onto s λ u n. after n (Ok y))) where
     after_reading : go room (writes (t y)) (stand_of q l) ≡ go room (readings c λ d. writes (t d)) (stand_of p l)
     after_reading = ap (go room (writes (t y))) (k l) ∙ sym (settled_go room c (λ d. writes (t d)) y s (stand_of p l) e)
 
-    line_stopped : (w : Refusal) → q.at ≡ No w → stand_of q l ≡ go room (readings c λ d. writes (t d)) (stand_of p l)
+    line_stopped : (w : Refusal) → q.answer ≡ Err w → stand_of q l ≡ go room (readings c λ d. writes (t d)) (stand_of p l)
     line_stopped w x = stays_no q room (writes (t y)) w l x ∙ after_reading
 
-    line_written : (z : Output) → z ≡ puts room (t y) (output_of q.at l) → ◌≡◌ {A = Stand} (record { output = z; nodes = q.nodes }) (go room (readings c λ d. writes (t d)) (stand_of p l))
+    line_written : (z : Output) → z ≡ puts room (t y) (output_of q.answer l) → ◌≡◌ {A = Stand} (record { output = z; nodes = q.nodes }) (go room (readings c λ d. writes (t d)) (stand_of p l))
     line_written z h = go_writes room (t y) (stand_of q l) z h ∙ after_reading
 
-  module _ (b : List ℕ) (v : Volume) (a : Attribute) (d : StreamData) (h : settled_told s ≡ settled_of b v d.object d.size 0) where
-    by_ruling : stream_of b v d.object d.size 0 ≡ (onto (settled_told s) λ u t. after t (got (stream_bytes b v d.object d.size 0)))
-    by_ruling = stream_settled b v d.object d.size 0 ∙ ap (λ (c : Counted (Unit {0})). onto c λ u t. after t (got (stream_bytes b v d.object d.size 0))) (sym h)
+  module _ (b : List ℕ) (v : Volume) (a : Attribute) (d : StreamData) (h : s ≡ settled_of b v d.object d.size 0) where
+    by_ruling : stream_of b v d.object d.size 0 ≡ (onto s λ u t. after t (Ok (stream_bytes b v d.object d.size 0)))
+    by_ruling = stream_settled b v d.object d.size 0 ∙ ap (λ (c : Counted (Unit {0})). onto c λ u t. after t (Ok (stream_bytes b v d.object d.size 0))) (sym h)
 
-    pub stream_stopped : (w : Refusal) → q.at ≡ No w → stand_of q l ≡ go room (stream_course b v a d) (stand_of p l)
+    pub stream_stopped : (w : Refusal) → q.answer ≡ Err w → stand_of q l ≡ go room (stream_course b v a d) (stand_of p l)
     unfolding stream_course
     stream_stopped = line_stopped _ (λ c. attribute_line (attribute_shown v.reader b a c) []) _ by_ruling
 
-    pub stream_written : (z : Output) → z ≡ puts room (attribute_line (attribute_shown v.reader b a (stream_bytes b v d.object d.size 0)) []) (output_of q.at l)
+    pub stream_written : (z : Output) → z ≡ puts room (attribute_line (attribute_shown v.reader b a (stream_bytes b v d.object d.size 0)) []) (output_of q.answer l)
         → ◌≡◌ {A = Stand} (record { output = z; nodes = q.nodes }) (go room (stream_course b v a d) (stand_of p l))
     unfolding stream_course
     stream_written = line_written _ (λ c. attribute_line (attribute_shown v.reader b a c) []) _ by_ruling
 
   -- the file's extents are those from a step on
   module _ (b : List ℕ) (v : Volume) (i : Inode) (t : Step) (g : Begins b (search_of v i.ids.private_id 8) t (scan_of b (search_of v i.ids.private_id 8) 0))
-      (h : settled_told s ≡ whole_from b v i (run_at b (search_of v i.ids.private_id 8) t t.from)) where
-    whole_ruling : read_plain b v i 0 ≡ (onto (settled_told s) λ u t. after t (got (stream_bytes b v i.ids.private_id (size_of i) 0)))
-    whole_ruling = plain_settled b v i 0 ∙ ap (λ (c : Counted (Unit {0})). onto c λ u t. after t (got (stream_bytes b v i.ids.private_id (size_of i) 0))) (sym (whole_begun b v i 0 (search_of v i.ids.private_id 8) t s refl g h))
+      (h : s ≡ whole_from b v i (run_at b (search_of v i.ids.private_id 8) t t.from)) where
+    whole_ruling : read_plain b v i 0 ≡ (onto s λ u t. after t (Ok (stream_bytes b v i.ids.private_id (size_of i) 0)))
+    whole_ruling = plain_settled b v i 0 ∙ ap (λ (c : Counted (Unit {0})). onto c λ u t. after t (Ok (stream_bytes b v i.ids.private_id (size_of i) 0))) (sym (whole_begun b v i 0 (search_of v i.ids.private_id 8) t s refl g h))
 
-    pub plain_stopped : (w : Refusal) → q.at ≡ No w → stand_of q l ≡ go room (plain_course b v i) (stand_of p l)
+    pub plain_stopped : (w : Refusal) → q.answer ≡ Err w → stand_of q l ≡ go room (plain_course b v i) (stand_of p l)
     unfolding plain_course
     plain_stopped = line_stopped _ (λ c. contents_line (plain c) []) _ whole_ruling
 
     pub plain_written : (z : Output)
-        → z ≡ puts room (contents_line (plain (run_bytes (extent_at v.reader b) (disk_of v.reader b) (size_of i) 0 (run_at b (search_of v i.ids.private_id 8) t t.from))) []) (output_of q.at l)
+        → z ≡ puts room (contents_line (plain (run_bytes (extent_at v.reader b) (disk_of v.reader b) (size_of i) 0 (run_at b (search_of v i.ids.private_id 8) t t.from))) []) (output_of q.answer l)
         → ◌≡◌ {A = Stand} (record { output = z; nodes = q.nodes }) (go room (plain_course b v i) (stand_of p l))
     unfolding plain_course stream_bytes
     plain_written z x = line_written _ (λ c. contents_line (plain c) []) _ whole_ruling z (rw g.run at x)
 
 -- an attribute's line, by where its contents lie
-module _ (room : ℕ) (b : List ℕ) (v : Volume) (a : Attribute) (p : Progress) (l : List ℕ) where
+module _ (room : ℕ) (b : List ℕ) (v : Volume) (a : Attribute) (p : Counted ℕ) (l : List ℕ) where
   abbrev written : Counted (List ℕ) → Stand
   written c = go room (readings c λ d. writes (attribute_line (attribute_shown v.reader b a d) [])) (stand_of p l)
 
-  pub embedded_course : (s : Span) (z : Output) → p.nodes < 2 ^ 64 → a.contents ≡ Embedded s → z ≡ puts room (attribute_line (attribute_shown v.reader b a (attribute_bytes v.reader b a.place s)) []) (output_of p.at l)
+  pub embedded_course : (s : Span) (z : Output) → p.nodes < 2 ^ 64 → a.contents ≡ Embedded s → z ≡ puts room (attribute_line (attribute_shown v.reader b a (attribute_bytes v.reader b a.place s)) []) (output_of p.answer l)
       → ◌≡◌ {A = Stand} (record { output = z; nodes = p.nodes }) (go room (attribute_course b v a) (stand_of p l))
   unfolding attribute_course contents_by
   embedded_course s z f q h =
       go_writes room _ (stand_of p l) z h
       ∙ ap (go room (writes _)) (sym (reads_none (attribute_bytes v.reader b a.place s) (stand_of p l) f))
-      ∙ sym (read_got (after 0 (got (attribute_bytes v.reader b a.place s))) _ room (stand_of p l) _ refl)
+      ∙ sym (read_got (after 0 (Ok (attribute_bytes v.reader b a.place s))) _ room (stand_of p l) _ refl)
       ∙ ap (λ (x : AttributeData). written (contents_by b v a.place x 0)) (sym q)
 
   pub streamed_course : (d : StreamData) (z : Stand) → a.contents ≡ Stream d → z ≡ go room (stream_course b v a d) (stand_of p l) → z ≡ go room (attribute_course b v a) (stand_of p l)
   unfolding attribute_course contents_by stream_course
   streamed_course d z q h = h ∙ ap (λ (x : AttributeData). written (contents_by b v a.place x 0)) (sym q)
 
-module _ (room : ℕ) (b : List ℕ) (v : Volume) (i : Inode) (p : Progress) (l : List ℕ) where
-  pub data_stopped : (w : Refusal) → p.at ≡ No w → stand_of p l ≡ go room (data_course b v i) (stand_of p l)
+module _ (room : ℕ) (b : List ℕ) (v : Volume) (i : Inode) (p : Counted ℕ) (l : List ℕ) where
+  pub data_stopped : (w : Refusal) → p.answer ≡ Err w → stand_of p l ≡ go room (data_course b v i) (stand_of p l)
   data_stopped w e = stays_no p room (data_course b v i) w l e
 
-  pub data_packed : (z : Output) → compressed i ≡ 1 → z ≡ puts room (contents_line shown.packed []) (output_of p.at l)
+  pub data_packed : (z : Output) → compressed i ≡ 1 → z ≡ puts room (contents_line shown.packed []) (output_of p.answer l)
       → ◌≡◌ {A = Stand} (record { output = z; nodes = p.nodes }) (go room (data_course b v i) (stand_of p l))
   unfolding data_course
   data_packed z q h = go_writes room _ (stand_of p l) z h ∙ ap (λ (c : Course). go room c (stand_of p l)) (same _ _ _ _ _ q refl)

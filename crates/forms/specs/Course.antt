@@ -1,10 +1,10 @@
 -- What a listing does, one thing after the other, and the nodes that it goes through. Document 02, request 06: "each reading in 01 is one walk",
 -- "A refused call adds the nodes counted up to the refusal". Its text and its end are the listing's own (`tied`, node_forms, specs/Tie.antt).
 use Rattle.std.specs.Prelude.{ℕ, zero, suc, ◌+◌, ◌-◌, List, [], ◌∷◌, ◌++◌, length}
-use Rattle.error.specs.Answer.{Answer, got, no, if_le, if_eq}
+use Rattle.error.specs.Answer.{Answer, Ok, Err, if_le, if_eq}
 use Rattle.error.specs.declared.Refusal.{Refusal}
 use Rattle.error.specs.declared.Refusal.TheVariants.{TooDeep}
-use Rattle.lookup.specs.Counted.{Counted}
+use Rattle.lookup.specs.declared.counted.Counted.{Counted}
 use Rattle.volume.specs.Rule.{rule_of}
 use Rattle.volume.specs.declared.Volume.{Volume}
 use Rattle.records.specs.declared.attribute.Attribute.{Attribute}
@@ -51,8 +51,8 @@ unfoldable pub ◌and_then◌ : Course → Course → Course
 c and_then d = goes_on c.deeds c.ended d
 
 abbrev pub read_as : {A : Type 0} → Answer A → (A → Course) → Course
-read_as (got a) f = f a
-read_as (no e) f = stops e
+read_as (Ok a) f = f a
+read_as (Err e) f = stops e
 
 abbrev pub passing : ℕ → Course → Course
 passing n d = record { deeds = through n ∷ d.deeds; ended = d.ended }

@@ -2,9 +2,10 @@
 -- demand's definitions, `listed_of` and Course.antt's. `run` of a text from the start of a buffer is `within` (`listed_got`, `listed_no`, listing,
 -- proofs/Whole.antt); what `go` leaves of a course is what `run` leaves of its text and what `spent` counts (`go_run`, `go_spent`, proofs/Going.antt).
 use Rattle.std.specs.Prelude.{ℕ, ◌+◌, List, [], ◌∷◌}
-use Rattle.error.specs.Answer.{Answer, got, no}
+use Rattle.error.specs.Answer.{Answer, Ok, Err}
 use Rattle.text.specs.Output.{Output, at, refused, output_of, puts}
-use Rattle.lookup.specs.Counted.{Counted, after, onto}
+use Rattle.lookup.specs.declared.counted.Counted.{Counted}
+use Rattle.lookup.specs.Counted.{after, onto}
 use Rattle.btree.specs.Scan.{Run}
 use Rattle.volume.specs.declared.Volume.{Volume}
 use Rattle.records.specs.declared.attribute.Attribute.{Attribute}
@@ -17,7 +18,6 @@ use Rattle.files.specs.File.{read_plain}
 use Rattle.extents.specs.Verdict.{fine}
 use Rattle.streams.specs.Streams.{stream_of}
 use Rattle.calls.specs.Nodes.{capped}
-use Rattle.calls.specs.declared.Progress.{Progress}
 use Rattle.lines.specs.Shown.{inode_shown, attribute_shown, plain}
 use Rattle.lines.specs.Lines.{node_line, attribute_line, contents_line}
 use Rattle.demand.specs.Trace.{done, stop, Trace}
@@ -43,8 +43,8 @@ pub record Stand : Type 0 where
   pub output : Output
   pub nodes : ℕ
 
-abbrev pub stand_of : Progress → List ℕ → Stand
-stand_of p b = record { output = output_of p.at b; nodes = p.nodes }
+abbrev pub stand_of : Counted ℕ → List ℕ → Stand
+stand_of p b = record { output = output_of p.answer b; nodes = p.nodes }
 
 -- nothing is counted once the output is refused
 abbrev pub unless_refused : Output → ℕ → ℕ → ℕ
@@ -70,8 +70,8 @@ go room c s = ended_with c.ended (go_through room c.deeds s)
 
 -- how something that is only read ends
 abbrev pub end_of : {A : Type 0} → Answer A → trace.End
-end_of (got x) = done
-end_of (no e) = stop e
+end_of (Ok x) = done
+end_of (Err e) = stop e
 
 -- after something that is only read
 unfoldable pub reads : {A : Type 0} → Counted A → Stand → Stand

@@ -12,26 +12,27 @@ ghost use Rattle.forms.specs.Course.{attribute_course, attribute_courses};
 ghost use Rattle.forms.specs.Inner.{go, stand_of, stream_course};
 
 use crate::reading::read;
-use calls::Progress;
 use cursor::{Step, next};
+use error::Refusal;
 use lines::{put_attribute_embedded, put_attribute_head};
-use lists::{AttributeIn, attribute_in, search};
+use lists::{Seen, attribute_in, search};
+use lookup::Counted;
 use records::{Attribute, AttributeData, StreamData};
 use streams::{put_stream_hex, settle_stream};
-use text::{Position, put_all};
+use text::put_all;
 use volume::Volume;
 
 // A line with a stream's bytes, where the stream can be read.
 pub fn put_streamed(
     out: &mut [u8],
     room: usize,
-    p: Position,
+    p: Result<usize, Refusal>,
     image: &[u8],
     v: Volume,
     a: Attribute,
     d: StreamData,
     nodes: u64,
-) -> Position
+) -> Result<usize, Refusal>
     ensures { output_of result out.new ≡ puts room (attribute_line (attribute_shown v.reader image.now a (stream_bytes image.now v d.object d.size nodes)) []) (output_of p out.old) }
 {
     let reader = v.reader;
@@ -43,22 +44,22 @@ pub fn put_streamed(
 fn put_stream(
     out: &mut [u8],
     room: usize,
-    p: Progress,
+    p: Counted<usize>,
     image: &[u8],
     v: Volume,
     a: Attribute,
     d: StreamData,
-) -> Progress
+) -> Counted<usize>
     ensures { stand_of result out.new ≡ go room (stream_course image.now v a d) (stand_of p out.old) }
 {
     let s = settle_stream(image, v, d.object, d.size, 0);
     let q = read(p, s);
-    let at = q.at;
-    if let Position::No(_) = at {
+    let at = q.answer;
+    if let Err(_) = at {
         return q;
     }
-    Progress {
-        at: put_streamed(out, room, at, image, v, a, d, 0),
+    Counted {
+        answer: put_streamed(out, room, at, image, v, a, d, 0),
         nodes: q.nodes,
     }
 }
@@ -66,19 +67,19 @@ fn put_stream(
 fn put_attribute(
     out: &mut [u8],
     room: usize,
-    p: Progress,
+    p: Counted<usize>,
     image: &[u8],
     v: Volume,
     a: Attribute,
-) -> Progress
+) -> Counted<usize>
     ensures { stand_of result out.new ≡ go room (attribute_course image.now v a) (stand_of p out.old) }
 {
-    let at = p.at;
+    let at = p.answer;
     let reader = v.reader;
     let contents = a.contents;
     match contents {
-        AttributeData::Embedded(span) => Progress {
-            at: put_attribute_embedded(out, room, at, image, reader, a, span),
+        AttributeData::Embedded(span) => Counted {
+            answer: put_attribute_embedded(out, room, at, image, reader, a, span),
             nodes: p.nodes,
         },
         AttributeData::Stream(d) => put_stream(out, room, p, image, v, a, d),
@@ -89,12 +90,12 @@ fn put_attribute(
 pub fn put_attributes(
     out: &mut [u8],
     room: usize,
-    p: Progress,
+    p: Counted<usize>,
     image: &[u8],
     v: Volume,
     id: u64,
     start: Step,
-) -> Progress
+) -> Counted<usize>
     ensures { stand_of result out.new ≡ go room (attribute_courses image.now v (readable (attribute_at v.reader image.now) (run_at image.now (search_of v id 4) start start.from))) (stand_of p out.old) }
 {
     let q = search(v, id, 4);
@@ -103,20 +104,20 @@ pub fn put_attributes(
     let mut s = start;
     let mut i = s.from;
     loop {
-        let at = o.at;
-        if let Position::No(_) = at {
+        let at = o.answer;
+        if let Err(_) = at {
             return o;
         }
         let reached = s.reached;
         match attribute_in(image, keys, reached, i) {
-            AttributeIn::Over => return o,
-            AttributeIn::No(_) => return o,
-            AttributeIn::Passed => {
+            Seen::Over => return o,
+            Seen::Refused(_) => return o,
+            Seen::Passed => {
                 let c = s.path;
                 s = next(image, q, c, s.level, s.nodes);
                 i = s.from;
             }
-            AttributeIn::At(a, after) => {
+            Seen::Element(a, after) => {
                 o = put_attribute(out, room, o, image, v, a);
                 i = after;
             }

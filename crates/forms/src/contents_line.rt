@@ -15,26 +15,27 @@ ghost use Rattle.forms.specs.Course.{data_course};
 ghost use Rattle.forms.specs.Inner.{go, stand_of, plain_course};
 
 use crate::reading::read;
-use calls::Progress;
 use contents::settle_whole;
 use cursor::{Step, Way, first};
+use error::Refusal;
 use files::size_of;
 use inode_record::Inode;
 use lists::{list_on, search};
+use lookup::Counted;
 use streams::put_stream_from;
-use text::{Position, put_all};
+use text::put_all;
 use volume::Volume;
 
 // The line of a file that can be read whole, its extents from a step on.
 fn put_bytes(
     out: &mut [u8],
     room: usize,
-    p: Position,
+    p: Result<usize, Refusal>,
     image: &[u8],
     v: Volume,
     i: Inode,
     start: Step,
-) -> Position
+) -> Result<usize, Refusal>
     ensures { output_of result out.new ≡ puts room (contents_line (plain (run_bytes (extent_at v.reader image.now) (disk_of v.reader image.now) (size_of i) 0 (run_at image.now (search_of v i.ids.private_id 8) start start.from))) []) (output_of p out.old) }
 {
     let ids = i.ids;
@@ -59,24 +60,24 @@ fn extents_on(image: &[u8], v: Volume, i: Inode, w: Way) -> Step
 fn put_plain(
     out: &mut [u8],
     room: usize,
-    p: Progress,
+    p: Counted<usize>,
     image: &[u8],
     v: Volume,
     i: Inode,
     w: Way,
-) -> Progress
+) -> Counted<usize>
     requires { Leads image.now (search_of v i.id 3) 0 w }
     ensures { stand_of result out.new ≡ go room (plain_course image.now v i) (stand_of p out.old) }
 {
     let start = extents_on(image, v, i, w);
     let s = settle_whole(image, v, i, start);
     let q = read(p, s);
-    let at = q.at;
-    if let Position::No(_) = at {
+    let at = q.answer;
+    if let Err(_) = at {
         return q;
     }
-    Progress {
-        at: put_bytes(out, room, at, image, v, i, start),
+    Counted {
+        answer: put_bytes(out, room, at, image, v, i, start),
         nodes: q.nodes,
     }
 }
@@ -85,23 +86,23 @@ fn put_plain(
 pub fn put_data(
     out: &mut [u8],
     room: usize,
-    p: Progress,
+    p: Counted<usize>,
     image: &[u8],
     v: Volume,
     i: Inode,
     w: Way,
-) -> Progress
+) -> Counted<usize>
     requires { Leads image.now (search_of v i.id 3) 0 w }
     ensures { stand_of result out.new ≡ go room (data_course image.now v i) (stand_of p out.old) }
 {
-    let at = p.at;
-    if let Position::No(_) = at {
+    let at = p.answer;
+    if let Err(_) = at {
         return p;
     }
     let owner = i.owner;
     if owner.bsd_flags / 32 % 2 == 1 {
-        return Progress {
-            at: put_all(out, room, at, b"(packed)\n"),
+        return Counted {
+            answer: put_all(out, room, at, b"(packed)\n"),
             nodes: p.nodes,
         };
     }

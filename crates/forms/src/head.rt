@@ -6,83 +6,75 @@ ghost use Rattle.records.specs.Attribute.{attribute_at};
 ghost use Rattle.volume.specs.Rule.{hashed_keys};
 ghost use Rattle.records.specs.Directory.{entry_at};
 ghost use Rattle.lists.specs.Lists.{search_of, list_of};
-ghost use Rattle.streams.specs.Streams.{settled_told};
 ghost use Rattle.forms.specs.Inner.{go, stand_of, reads, settled, head_course};
 
 use crate::attributes::put_attributes;
 use crate::contents_line::put_data;
 use crate::reading::read;
-use calls::Progress;
 use cursor::{Reached, Step, Way};
-use extents::Ruling;
 use inode_record::Inode;
 use lines::put_node_line;
-use lists::{AttributeAt, EntryAt, attribute_from, entry_from, list_on};
-use streams::Settled;
-use text::Position;
+use lists::{attribute_from, entry_from, list_on};
+use lookup::Counted;
 use volume::Volume;
 
 // A place that no list reaches: the whole list from a step on is read, unless it has ended there.
-fn settle_attributes(image: &[u8], v: Volume, id: u64, start: Step) -> Settled
-    ensures { settled_told result ≡ settled (list_of (attribute_at v.reader image.now) (run_at image.now (search_of v id 4) start start.from)) }
+#[tactic(auto, using(crate::proofs::Heads::heads))]
+fn settle_attributes(image: &[u8], v: Volume, id: u64, start: Step) -> Counted<()>
+    ensures { result ≡ settled (list_of (attribute_at v.reader image.now) (run_at image.now (search_of v id 4) start start.from)) }
 {
-    let reached = start.reached;
-    if let Reached::End = reached {
-        return Settled {
-            ruling: Ruling::Fine,
+    if let Reached::End = start.reached {
+        return Counted {
+            answer: Ok(()),
             nodes: start.nodes,
         };
     }
     let found = attribute_from(image, v, id, 18446744073709551615, start);
-    let attribute = found.attribute;
-    let ruling = match attribute {
-        AttributeAt::No(w) => Ruling::No(w),
-        AttributeAt::At(_) => Ruling::Fine,
-        AttributeAt::Nothing => Ruling::Fine,
+    let answer = match found.answer {
+        Ok(_) => Ok(()),
+        Err(w) => Err(w),
     };
-    Settled {
-        ruling: ruling,
+    Counted {
         nodes: found.nodes,
+        answer: answer,
     }
 }
 
-fn settle_entries(image: &[u8], v: Volume, id: u64, start: Step) -> Settled
-    ensures { settled_told result ≡ settled (list_of (entry_at (hashed_keys v) v.reader image.now) (run_at image.now (search_of v id 9) start start.from)) }
+#[tactic(auto, using(crate::proofs::Heads::heads))]
+fn settle_entries(image: &[u8], v: Volume, id: u64, start: Step) -> Counted<()>
+    ensures { result ≡ settled (list_of (entry_at (hashed_keys v) v.reader image.now) (run_at image.now (search_of v id 9) start start.from)) }
 {
-    let reached = start.reached;
-    if let Reached::End = reached {
-        return Settled {
-            ruling: Ruling::Fine,
+    if let Reached::End = start.reached {
+        return Counted {
+            answer: Ok(()),
             nodes: start.nodes,
         };
     }
     let found = entry_from(image, v, id, 18446744073709551615, start);
-    let entry = found.entry;
-    let ruling = match entry {
-        EntryAt::No(w) => Ruling::No(w),
-        EntryAt::At(_) => Ruling::Fine,
-        EntryAt::Nothing => Ruling::Fine,
+    let answer = match found.answer {
+        Ok(_) => Ok(()),
+        Err(w) => Err(w),
     };
-    Settled {
-        ruling: ruling,
+    Counted {
         nodes: found.nodes,
+        answer: answer,
     }
 }
 
 fn read_lists(
-    p: Progress,
+    p: Counted<usize>,
     image: &[u8],
     v: Volume,
     id: u64,
     attributes: Step,
     entries: Step,
-) -> Progress
+) -> Counted<usize>
     ensures { (b : List ℕ) → stand_of result b ≡ reads (list_of (entry_at (hashed_keys v) v.reader image.now) (run_at image.now (search_of v id 9) entries entries.from)) (reads (list_of (attribute_at v.reader image.now) (run_at image.now (search_of v id 4) attributes attributes.from)) (stand_of p b)) }
 {
     let a = settle_attributes(image, v, id, attributes);
     let q = read(p, a);
-    let at = q.at;
-    if let Position::No(_) = at {
+    let at = q.answer;
+    if let Err(_) = at {
         return q;
     }
     let e = settle_entries(image, v, id, entries);
@@ -93,24 +85,24 @@ fn read_lists(
 pub fn put_head(
     out: &mut [u8],
     room: usize,
-    p: Progress,
+    p: Counted<usize>,
     image: &[u8],
     v: Volume,
     i: Inode,
     w: Way,
     entries: Step,
-) -> Progress
+) -> Counted<usize>
     requires { Leads image.now (search_of v i.id 3) 0 w }
     ensures { stand_of result out.new ≡ go room (head_course image.now v i (run_at image.now (search_of v i.id 9) entries entries.from)) (stand_of p out.old) }
 {
-    let at = p.at;
+    let at = p.answer;
     let reader = v.reader;
-    let a = Progress {
-        at: put_node_line(out, room, at, image, reader, i),
+    let a = Counted {
+        answer: put_node_line(out, room, at, image, reader, i),
         nodes: p.nodes,
     };
-    let line = a.at;
-    if let Position::No(_) = line {
+    let line = a.answer;
+    if let Err(_) = line {
         return a;
     }
     let attributes = list_on(image, v, i.id, 4, w, 0);

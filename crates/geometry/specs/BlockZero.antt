@@ -2,40 +2,28 @@
 -- Reference, "Container", nx_superblock_t.
 use Rattle.std.specs.Prelude.{ℕ, ◌*◌, ◌/◌, ◌^◌, Bool, false, List, eqb, length}
 use Rattle.std.specs.Int.Count.{ones}
-use Rattle.error.specs.Answer.{Answer, got, no, ◌>>=◌, pick, if_le, if_eq}
+use Rattle.error.specs.Answer.{Answer, Ok, Err, ◌>>=◌, pick, if_le, if_eq}
 use Rattle.error.specs.declared.Refusal.TheVariants.{Io, Corrupt, Unsupported, NotFound}
 use Rattle.byte_fields.specs.Number.{number_at}
 use Rattle.byte_fields.specs.Part.{part_of, span_at}
 use Rattle.arith.specs.Checked.{product_of}
 use Rattle.geometry.specs.declared.Geometry.{Geometry}
-use Rattle.geometry.specs.declared.Sized.{Sized}
-use Rattle.geometry.specs.declared.Sized.TheVariants as sized
-use Rattle.geometry.specs.declared.Measured.{Measured}
-use Rattle.geometry.specs.declared.Measured.TheVariants as measured
-
-abbrev pub measured_told : Measured → Answer Geometry
-measured_told (measured.Got g) = got g
-measured_told (measured.No e) = no e
-
-abbrev pub size_told : Sized → Answer ℕ
-size_told (sized.Got n) = got n
-size_told (sized.No e) = no e
 
 -- "Block size is 4,096 to 65,536 and a number with one bit set"
 unfoldable pub size_ok : ℕ → Answer ℕ
-size_ok size = if_le 4096 size (if_le size 65536 (if_eq (ones size) 1 (got size) (no Corrupt)) (no Corrupt)) (no Corrupt)
+size_ok size = if_le 4096 size (if_le size 65536 (if_eq (ones size) 1 (Ok size) (Err Corrupt)) (Err Corrupt)) (Err Corrupt)
 
 -- NX_MAGIC, "NXSB"
 abbrev pub is_magic : Answer ℕ → Bool
-is_magic (got n) = eqb n 0x4253584E
-is_magic (no e) = false
+is_magic (Ok n) = eqb n 0x4253584E
+is_magic (Err e) = false
 
 unfoldable pub has_magic : List ℕ → Bool
 has_magic b = is_magic (number_at 4 b 32)
 
 -- "No NXSB at byte 32: 4. Block size: 2"
 unfoldable pub size_in : List ℕ → Answer ℕ
-size_in b = pick (has_magic b) (number_at 4 b 36 >>= size_ok) (no NotFound)
+size_in b = pick (has_magic b) (number_at 4 b 36 >>= size_ok) (Err NotFound)
 
 -- "First 4,096 bytes missing: 1"
 unfoldable pub size_at : List ℕ → Answer ℕ
@@ -44,8 +32,8 @@ size_at image = span_at Io (length image) 0 4096 >>= λ s. size_in (part_of imag
 -- "Descriptor-tree bit 0x80000000: 3"; "Block 0's checksum is not checked; it alone gives block size, block count and ring"
 unfoldable pub ring_of : ℕ → ℕ → ℕ → ℕ → Answer Geometry
 ring_of size count blocks base =
-    if_eq (blocks / 2 ^ 31) 1 (no Unsupported)
-    (got (record { reader = record { block_size = size; block_count = count }; ring = blocks; base = base }))
+    if_eq (blocks / 2 ^ 31) 1 (Err Unsupported)
+    (Ok (record { reader = record { block_size = size; block_count = count }; ring = blocks; base = base }))
 
 -- nx_block_count, nx_xp_desc_blocks, nx_xp_desc_base
 unfoldable pub geometry_in : List ℕ → ℕ → Answer Geometry
@@ -67,4 +55,4 @@ unfoldable pub area_at : ℕ → Geometry → Answer ℕ
 area_at size g =
     product_of g.base g.reader.block_size >>= λ start.
     span_at Io size start (g.ring * g.reader.block_size) >>= λ s.
-    got start
+    Ok start

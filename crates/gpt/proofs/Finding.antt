@@ -1,42 +1,18 @@
 -- The first entry of a container's type, and where it lies.
-use Prim.Native.Nat.{ℕ, suc, ◌+◌, ◌*◌, ◌-◌, ◌/◌, ◌^◌, ◌≤◌, ◌<◌}
-use mathlib.Core.Path.{◌≡◌, refl, ◌∙◌}
+use Prim.Native.Nat.{ℕ, suc, ◌+◌, ◌*◌, ◌-◌, ◌^◌, ◌≤◌, ◌<◌}
+use mathlib.Core.Path.{◌≡◌, ◌∙◌}
 use mathlib.Core.Bool.{Bool, true, false}
 use mathlib.Core.List.{List}
 use native.Mathlib.Omega.{arith}
 use native.Mathlib.Nat.{mul-le-mul_right, sub-zero}
 use borrow.Author.Rules.{rules}
-use lib.Dec.{eqb}
 use lib.ListN.{length}
-use Rattle.error.specs.Answer.{Answer, got, no, pick}
+use Rattle.error.specs.Answer.{Answer, Err, pick}
 use Rattle.error.specs.declared.Refusal.TheVariants.{NoPartition}
-use Rattle.error.proofs.Laws.{at_most_lem, above, same_by, other_by}
 use Rattle.byte_fields.specs.Number.{little}
 use Rattle.byte_fields.specs.declared.Span.{Span}
 use Rattle.gpt.specs.Table.{is_apfs, place_of, entry_in}
 use Rattle.gpt.specs.declared.header.Table.{Table}
-
-module _ (image : List ℕ) (place a b : ℕ) (ea : a ≡ little 8 image place) where
-  pub type_no : (a ≡ 0x11AA00007C3457EF → ⊥) → false ≡ is_apfs image place
-  unfolding is_apfs
-  type_no h = other_by _ _ _ _ _ a ea h refl
-
-  pub type_is : a ≡ 0x11AA00007C3457EF → b ≡ little 8 image (place + 8) → eqb b 0xACEC4365300011AA ≡ is_apfs image place
-  unfolding is_apfs
-  type_is h e = same_by _ _ _ _ _ a ea h (rw e)
-
-module _ (size first last : ℕ) where
-  pub place_before : last < first → no NoPartition ≡ place_of size first last
-  unfolding place_of
-  place_before h = above _ _ _ _ _ h refl
-
-  pub place_past : first ≤ last → size / 512 ≤ last → no NoPartition ≡ place_of size first last
-  unfolding place_of
-  place_past h k = at_most_lem _ _ _ _ _ h (above _ _ _ _ _ (omega arith) refl)
-
-  pub place_in : first ≤ last → last < size / 512 → got (record { start = 512 * first; len = 512 * (last + 1 - first) }) ≡ place_of size first last
-  unfolding place_of
-  place_in h k = at_most_lem _ _ _ _ _ h (at_most_lem _ _ _ _ _ (omega arith) refl)
 
 -- an entry lies in the array, and the array in the image
 module _ (image : List ℕ) (t : Table) (i : ℕ) (h : i < t.count) (k : t.start + t.count * t.size ≤ length image) where
@@ -64,7 +40,7 @@ pub entries_start : (image : List ℕ) (t : Table) → entry_in image t (t.count
 entries_start image t = rw sub-zero
 
 module _ (image : List ℕ) (t : Table) (i : ℕ) (whole : Answer Span) (p : entry_in image t (t.count - i) i ≡ whole) where
-  pub entries_over : t.count ≤ i → no NoPartition ≡ whole
+  pub entries_over : t.count ≤ i → Err NoPartition ≡ whole
   unfolding entry_in
   entries_over h = let e : t.count - i ≡ 0 = omega arith in rw e at p
 
@@ -79,4 +55,4 @@ module _ (image : List ℕ) (t : Table) (i : ℕ) (whole : Answer Span) (p : ent
     pub entry_found_lem : (f l : ℕ) (z : Answer Span) → d ≡ true → f ≡ little 8 image (t.start + i * t.size + 32) → l ≡ little 8 image (t.start + i * t.size + 40) → z ≡ place_of (length image) f l → z ≡ whole
     entry_found_lem f l z q ef el k = k ∙ rw (ef, el) (rw q at goes)
 
-pub ruleset finding = (rules, type_no, type_is, place_before, place_past, place_in, entry_product, entry_place, entry_field, entry_type, entry_number, entries_start, entries_over, entry_passed, entry_found_lem)
+pub ruleset finding = (rules, entry_product, entry_place, entry_field, entry_type, entry_number, entries_start, entries_over, entry_passed, entry_found_lem)

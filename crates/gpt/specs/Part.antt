@@ -1,6 +1,6 @@
 -- The part of an image that everything reads. Document 02, request 01, which the quotes are from.
 use Rattle.std.specs.Prelude.{ℕ, ◌^◌, List, length}
-use Rattle.error.specs.Answer.{Answer, got, no, ◌>>=◌, if_le, if_eq}
+use Rattle.error.specs.Answer.{Answer, Ok, Err, ◌>>=◌, if_le, if_eq}
 use Rattle.error.specs.declared.Refusal.TheVariants.{Io, ImageTooLarge}
 use Rattle.byte_fields.specs.Number.{little}
 use Rattle.byte_fields.specs.Part.{part_of}
@@ -12,9 +12,9 @@ unfoldable pub part_of_image : List ℕ → Answer Span
 part_of_image image =
     if_le (length image) (2 ^ 34)
     (if_le 4096 (length image)
-    (if_eq (little 4 image 32) 0x4253584E (got (record { start = 0; len = length image })) (table_of image >>= λ t. entry_in image t t.count 0))
-    (no Io))
-    (no ImageTooLarge)
+    (if_eq (little 4 image 32) 0x4253584E (Ok (record { start = 0; len = length image })) (table_of image >>= λ t. entry_in image t t.count 0))
+    (Err Io))
+    (Err ImageTooLarge)
 
 -- "Everything after reads that part as its whole image"
 abbrev pub on_part : {A : Type 0} → (List ℕ → Answer A) → List ℕ → Answer A

@@ -1,19 +1,13 @@
 -- A GUID partition table in sectors of 512 bytes. Document 02, request 01, which the quotes are from; UEFI specification 2.10, 5.3, for the places of the fields.
 use Rattle.std.specs.Prelude.{ℕ, zero, suc, ◌+◌, ◌*◌, ◌-◌, ◌/◌, ◌^◌, Bool, false, List, ◌∷◌, ◌++◌, eqb, length, take, drop}
 use Rattle.std.specs.Int.Count.{ones}
-use Rattle.error.specs.Answer.{Answer, got, no, pick, if_le, if_eq}
+use Rattle.error.specs.Answer.{Answer, Ok, Err, pick, if_le, if_eq}
 use Rattle.error.specs.declared.Refusal.TheVariants.{NoPartitionTable, NoPartition}
 use Rattle.byte_fields.specs.Number.{little}
 use Rattle.byte_fields.specs.Part.{part_of}
 use Rattle.byte_fields.specs.declared.Span.{Span}
 use Rattle.crc.specs.Crc.{crc}
 use Rattle.gpt.specs.declared.header.Table.{Table}
-use Rattle.gpt.specs.declared.header.TableRead.{TableRead}
-use Rattle.gpt.specs.declared.header.TableRead.TheVariants as read
-
-abbrev pub table_told : TableRead → Answer Table
-table_told (read.Got t) = got t
-table_told (read.No e) = no e
 
 -- "CRC-32": of IEEE 802.3, reflected, from all ones, complemented at the end
 abbrev pub ieee : ℕ
@@ -62,8 +56,8 @@ intact image lba = pick (header_intact (sector_of image lba) lba) (array_intact 
 unfoldable pub table_of : List ℕ → Answer Table
 table_of image =
     let last = length image / 512 - 1 in
-    pick (intact image 1) (got (table_in (sector_of image 1)))
-    (pick (intact image last) (got (table_in (sector_of image last))) (no NoPartitionTable))
+    pick (intact image 1) (Ok (table_in (sector_of image 1)))
+    (pick (intact image last) (Ok (table_in (sector_of image last))) (Err NoPartitionTable))
 
 -- "type 7C3457EF-0000-11AA-AA11-00306543ECAC", PartitionTypeGUID, as two numbers of 64 bits (`guid`, proofs/Examples.antt)
 unfoldable pub is_apfs : List ℕ → ℕ → Bool
@@ -73,12 +67,12 @@ is_apfs image place = if_eq (little 8 image place) 0x11AA00007C3457EF (eqb (litt
 unfoldable pub place_of : ℕ → ℕ → ℕ → Answer Span
 place_of size first last =
     if_le first last
-    (if_le (512 * (last + 1)) size (got (record { start = 512 * first; len = 512 * (last + 1 - first) })) (no NoPartition))
-    (no NoPartition)
+    (if_le (512 * (last + 1)) size (Ok (record { start = 512 * first; len = 512 * (last + 1 - first) })) (Err NoPartition))
+    (Err NoPartition)
 
 -- "the first entry of type .." among n from the i-th on (StartingLBA, EndingLBA); "12 when an intact table has no such entry"
 unfoldable pub entry_in : List ℕ → Table → ℕ → ℕ → Answer Span
-entry_in image t zero i = no NoPartition
+entry_in image t zero i = Err NoPartition
 entry_in image t (suc n) i =
     let place = t.start + i * t.size in
     pick (is_apfs image place) (place_of (length image) (little 8 image (place + 32)) (little 8 image (place + 40))) (entry_in image t n (i + 1))

@@ -49,6 +49,7 @@ fn table() -> [u32; 256]
     TABLE
 }
 
+#[tactic(auto, using(crate::proofs::Sums::sums))]
 pub fn crc32_of(b: &[u8]) -> u32
     ensures { result ≡ crc32 b.now }
 {
@@ -57,6 +58,7 @@ pub fn crc32_of(b: &[u8]) -> u32
 }
 
 // Of the first n bytes of a header, its own sum counting as zeros.
+#[tactic(auto, using(crate::proofs::Sums::sums))]
 pub fn header_crc(h: &[u8], n: usize) -> u32
     requires { 20 ≤ n }
     ensures { result ≡ header_crc h.now n }

@@ -5,6 +5,7 @@ mod crc32;
 mod entries;
 mod header;
 mod image;
+mod small;
 
 pub use header::Table;
 pub use image::part_of_image;

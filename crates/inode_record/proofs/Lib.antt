@@ -1,4 +1,3 @@
 pub mod Laws
-pub mod Signs
 pub mod Turns
 pub mod Replaced

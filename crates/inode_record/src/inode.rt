@@ -1,9 +1,9 @@
 // An inode (`j_inode_val_t`).
 ghost use Rattle.std.specs.Prelude.{◌≡◌};
-ghost use Rattle.inode_record.specs.Inode.{inode_told, ids_told, ids_in, times_told, times_in, owner_told, owner_with, owner_in, signed_of, inode_in, inode_at, inode_name};
+ghost use Rattle.inode_record.specs.Inode.{ids_in, times_in, owner_in, inode_at, inode_name};
 
-use crate::fields::{Fields, FieldsRead, fields_in};
-use byte_fields::{Number, u16_at, u32_at, u64_at};
+use crate::fields::{Fields, fields_in};
+use byte_fields::{u16_at, u32_at, u64_at};
 use error::Refusal;
 use names::{Name, name_bytes};
 use node::{Place, value_of};
@@ -43,162 +43,60 @@ pub struct Inode {
     pub fields: Fields,
 }
 
-#[derive(Clone, Copy)]
-pub enum IdsRead {
-    Got(Ids),
-    No(Refusal),
-}
-
-#[derive(Clone, Copy)]
-pub enum TimesRead {
-    Got(Times),
-    No(Refusal),
-}
-
-#[derive(Clone, Copy)]
-pub enum OwnerRead {
-    Got(Owner),
-    No(Refusal),
-}
-
-#[derive(Clone, Copy)]
-pub enum InodeRead {
-    Got(Inode),
-    No(Refusal),
-}
-
-fn ids_in(v: &[u8]) -> IdsRead
-    ensures { ids_told result ≡ ids_in v.now }
+#[tactic(auto, unfolding(crate::specs::Inode::ids_in))]
+fn ids_in(v: &[u8]) -> Result<Ids, Refusal>
+    ensures { result ≡ ids_in v.now }
 {
-    let parent = match u64_at(v, 0) {
-        Number::Got(x) => x,
-        Number::No(e) => return IdsRead::No(e),
-    };
-    let private_id = match u64_at(v, 8) {
-        Number::Got(x) => x,
-        Number::No(e) => return IdsRead::No(e),
-    };
-    IdsRead::Got(Ids {
-        parent: parent,
-        private_id: private_id,
+    Ok(Ids {
+        parent: u64_at(v, 0)?,
+        private_id: u64_at(v, 8)?,
     })
 }
 
-fn times_in(v: &[u8]) -> TimesRead
-    ensures { times_told result ≡ times_in v.now }
+#[tactic(auto, unfolding(crate::specs::Inode::times_in))]
+fn times_in(v: &[u8]) -> Result<Times, Refusal>
+    ensures { result ≡ times_in v.now }
 {
-    let create = match u64_at(v, 16) {
-        Number::Got(x) => x,
-        Number::No(e) => return TimesRead::No(e),
-    };
-    let modify = match u64_at(v, 24) {
-        Number::Got(x) => x,
-        Number::No(e) => return TimesRead::No(e),
-    };
-    let change = match u64_at(v, 32) {
-        Number::Got(x) => x,
-        Number::No(e) => return TimesRead::No(e),
-    };
-    let access = match u64_at(v, 40) {
-        Number::Got(x) => x,
-        Number::No(e) => return TimesRead::No(e),
-    };
-    TimesRead::Got(Times {
-        create: create,
-        modify: modify,
-        change: change,
-        access: access,
+    Ok(Times {
+        create: u64_at(v, 16)?,
+        modify: u64_at(v, 24)?,
+        change: u64_at(v, 32)?,
+        access: u64_at(v, 40)?,
     })
 }
 
-// The number whose bit pattern it is.
-fn signed_of(x: u32) -> i32
-    ensures { result ≡ signed_of x }
+#[tactic(auto, using(crate::proofs::Laws::links_read), unfolding(crate::specs::Inode::owner_in))]
+fn owner_in(v: &[u8]) -> Result<Owner, Refusal>
+    ensures { result ≡ owner_in v.now }
 {
-    let wide = x as i64;
-    if 2147483648 <= x {
-        return (wide - 4294967296) as i32;
-    }
-    wide as i32
-}
-
-fn owner_with(v: &[u8], flags: u64, links: i32, bsd: u32) -> OwnerRead
-    ensures { owner_told result ≡ owner_with v.now flags links bsd }
-{
-    let owner = match u32_at(v, 72) {
-        Number::Got(x) => x,
-        Number::No(e) => return OwnerRead::No(e),
-    };
-    let group = match u32_at(v, 76) {
-        Number::Got(x) => x,
-        Number::No(e) => return OwnerRead::No(e),
-    };
-    match u16_at(v, 80) {
-        Number::Got(mode) => OwnerRead::Got(Owner {
-            internal_flags: flags,
-            links: links,
-            bsd_flags: bsd,
-            owner: owner as u32,
-            group: group as u32,
-            mode: mode as u16,
-        }),
-        Number::No(e) => OwnerRead::No(e),
-    }
-}
-
-fn owner_in(v: &[u8]) -> OwnerRead
-    ensures { owner_told result ≡ owner_in v.now }
-{
-    let flags = match u64_at(v, 48) {
-        Number::Got(x) => x,
-        Number::No(e) => return OwnerRead::No(e),
-    };
-    let links = match u32_at(v, 56) {
-        Number::Got(x) => x,
-        Number::No(e) => return OwnerRead::No(e),
-    };
-    match u32_at(v, 68) {
-        Number::Got(bsd) => owner_with(v, flags, signed_of(links as u32), bsd as u32),
-        Number::No(e) => OwnerRead::No(e),
-    }
-}
-
-fn inode_in(place: Place, id: u64, v: &[u8]) -> InodeRead
-    ensures { inode_told result ≡ inode_in place id v.now }
-{
-    let ids = match ids_in(v) {
-        IdsRead::Got(x) => x,
-        IdsRead::No(e) => return InodeRead::No(e),
-    };
-    let times = match times_in(v) {
-        TimesRead::Got(x) => x,
-        TimesRead::No(e) => return InodeRead::No(e),
-    };
-    let owner = match owner_in(v) {
-        OwnerRead::Got(x) => x,
-        OwnerRead::No(e) => return InodeRead::No(e),
-    };
-    match fields_in(v) {
-        FieldsRead::Got(fields) => InodeRead::Got(Inode {
-            place: place,
-            id: id,
-            ids: ids,
-            times: times,
-            owner: owner,
-            fields: fields,
-        }),
-        FieldsRead::No(e) => InodeRead::No(e),
-    }
+    Ok(Owner {
+        internal_flags: u64_at(v, 48)?,
+        links: u32_at(v, 56)?.cast_signed(),
+        bsd_flags: u32_at(v, 68)?,
+        owner: u32_at(v, 72)?,
+        group: u32_at(v, 76)?,
+        mode: u16_at(v, 80)?,
+    })
 }
 
 // The inode of a record.
-pub fn inode_at(reader: Reader, image: &[u8], place: Place, id: u64) -> InodeRead
-    ensures { inode_told result ≡ inode_at reader image.now place id }
+#[tactic(auto, unfolding(crate::specs::Inode::inode_at, crate::specs::Inode::inode_in))]
+pub fn inode_at(reader: Reader, image: &[u8], place: Place, id: u64) -> Result<Inode, Refusal>
+    ensures { result ≡ inode_at reader image.now place id }
 {
-    inode_in(place, id, value_of(reader, image, place))
+    let v = value_of(reader, image, place);
+    Ok(Inode {
+        place,
+        id,
+        ids: ids_in(v)?,
+        times: times_in(v)?,
+        owner: owner_in(v)?,
+        fields: fields_in(v)?,
+    })
 }
 
 // The bytes of a name in an inode's value.
+#[tactic(auto, unfolding(crate::specs::Inode::inode_name))]
 pub fn inode_name(reader: Reader, image: &[u8], place: Place, name: Name) -> &[u8]
     ensures { result.now ≡ inode_name reader image.now place name }
 {

@@ -4,5 +4,5 @@
 mod fields;
 mod inode;
 
-pub use fields::{Dstream, Fields, NameField, StreamField};
-pub use inode::{Ids, Inode, InodeRead, Owner, Times, inode_at, inode_name};
+pub use fields::{Dstream, Fields};
+pub use inode::{Ids, Inode, Owner, Times, inode_at, inode_name};

@@ -7,39 +7,33 @@ use native.Mathlib.Omega.{arith}
 use borrow.Author.Rules.{rules}
 use mir.Syntax.{w64}
 use mir.Val.{Fits}
-use Rattle.error.specs.Answer.{Answer, number_of}
+use Rattle.error.specs.Answer.{Answer, number_of, Err, Ok}
 use Rattle.error.specs.declared.Refusal.{Refusal}
-use Rattle.byte_fields.specs.Number.{told}
-use Rattle.byte_fields.specs.Part.{sliced}
-use Rattle.byte_fields.specs.declared.Number.{Number}
-use Rattle.byte_fields.specs.declared.Sliced.{Sliced}
-use Rattle.obj.specs.Header.{parsed}
 use Rattle.obj.specs.declared.header.ObjHeader.{ObjHeader}
-use Rattle.obj.specs.declared.header.Parsed.{Parsed}
-use Rattle.obj.specs.declared.header.Parsed.TheVariants.{Got, No}
 use Rattle.utf8.specs.Text.{piece_of, size_of}
 use Rattle.utf8.specs.declared.Piece.{Piece}
 use Rattle.utf8.specs.declared.Piece.TheVariants.{IllFormed}
 use Rattle.utf8.proofs.Pieces.{size_within}
 use Rattle.leaves.specs.Leaves.{refusal_in, header_field, field_of, piece_number}
+use Rattle.byte_fields.specs.declared.Span.{Span}
 
-pub number_refused : (n : Number) (e : Refusal) (z : ℕ) → n ≡ Number.No e → z ≡ number_of e → z ≡ refusal_in (told n)
+pub number_refused : (n : Answer ℕ) (e : Refusal) (z : ℕ) → n ≡ Err e → z ≡ number_of e → z ≡ refusal_in n
 number_refused n e z q k = rw q k
 
-pub span_refused : (s : Sliced) (e : Refusal) (z : ℕ) → s ≡ Sliced.No e → z ≡ number_of e → z ≡ refusal_in (sliced s)
+pub span_refused : (s : Answer Span) (e : Refusal) (z : ℕ) → s ≡ Err e → z ≡ number_of e → z ≡ refusal_in s
 span_refused s e z q k = rw q k
 
-module _ (r : Parsed) (a : Answer ObjHeader) (p : parsed r ≡ a) where
-  pub header_taken : (h : ObjHeader) → r ≡ Got h → 0 ≡ refusal_in a
+module _ (r : Answer ObjHeader) (a : Answer ObjHeader) (p : r ≡ a) where
+  pub header_taken : (h : ObjHeader) → r ≡ Ok h → 0 ≡ refusal_in a
   header_taken h q = rw (← p, q)
 
-  pub header_refused : (e : Refusal) (z : ℕ) → r ≡ No e → z ≡ number_of e → z ≡ refusal_in a
+  pub header_refused : (e : Refusal) (z : ℕ) → r ≡ Err e → z ≡ number_of e → z ≡ refusal_in a
   header_refused e z q k = rw (← p, q) k
 
-  pub header_field_lem : (n : ℕ) (h : ObjHeader) (z : ℕ) → r ≡ Got h → z ≡ field_of n h → z ≡ header_field n a
+  pub header_field_lem : (n : ℕ) (h : ObjHeader) (z : ℕ) → r ≡ Ok h → z ≡ field_of n h → z ≡ header_field n a
   header_field_lem n h z q k = rw (← p, q) k
 
-  pub header_none : (n : ℕ) (e : Refusal) → r ≡ No e → 0 ≡ header_field n a
+  pub header_none : (n : ℕ) (e : Refusal) → r ≡ Err e → 0 ≡ header_field n a
   header_none n e q = rw (← p, q)
 
 -- an ill-formed part is no longer than the text, so 256 more fits

@@ -6,9 +6,8 @@ ghost use Rattle.checksum.specs.Fletcher.{checksum, valid};
 ghost use Rattle.obj.specs.Header.{header_at};
 ghost use Rattle.leaves.specs.Leaves.{header_field, field_of, refusal_in, one_if};
 
-use crate::answers::{one_if, span_refusal};
-use error::number_of;
-use obj::{ObjHeader, Parsed};
+use crate::answers::{one_if, refusal_in};
+use obj::ObjHeader;
 
 #[unsafe(no_mangle)]
 pub extern "C" fn leaf_compute(object: &[u8]) -> u64
@@ -25,6 +24,7 @@ pub extern "C" fn leaf_verify(object: &[u8]) -> u64
 }
 
 // A field by its number: cksum, oid, xid, type, subtype, kind.
+#[tactic(auto, unfolding(crate::specs::Leaves::field_of, error::specs::Answer::if_le, error::specs::Answer::if_eq))]
 fn field_of(h: ObjHeader, field: u64) -> u64
     ensures { result ≡ field_of field h }
 {
@@ -54,8 +54,8 @@ pub extern "C" fn leaf_header(b: &[u8], field: u64) -> u64
     ensures { result ≡ header_field field (header_at b.now) }
 {
     match obj::parse(b) {
-        Parsed::Got(h) => field_of(h, field),
-        Parsed::No(_) => 0,
+        Ok(h) => field_of(h, field),
+        Err(_) => 0,
     }
 }
 
@@ -63,15 +63,12 @@ pub extern "C" fn leaf_header(b: &[u8], field: u64) -> u64
 pub extern "C" fn leaf_header_refused(b: &[u8]) -> u64
     ensures { result ≡ refusal_in (header_at b.now) }
 {
-    match obj::parse(b) {
-        Parsed::Got(_) => 0,
-        Parsed::No(e) => number_of(e) as u64,
-    }
+    refusal_in(obj::parse(b))
 }
 
 #[unsafe(no_mangle)]
 pub extern "C" fn leaf_read_at(image: &[u8], off: u64, len: usize) -> u64
     ensures { result ≡ refusal_in (span_at Io (length image.now) off len) }
 {
-    span_refusal(obj::read_at(image, off, len))
+    refusal_in(obj::read_at(image, off, len))
 }

@@ -3,7 +3,7 @@ use Prim.Native.Nat.{ℕ}
 use mathlib.Core.Path.{◌≡◌, refl, sym, ap}
 use mathlib.Core.Bool.{Bool}
 use mathlib.Core.List.{List, [], ◌∷◌, ◌++◌}
-use mathlib.Core.Option.{Option, none, some}
+use Rattle.std.specs.Prelude.{Option, None, Some}
 use lib.IntN.{ℤ}
 use Rattle.text.specs.Words.{ascii, digits, signed, pairs, bytes, bytes?, two?, words}
 use Rattle.text.proofs.Digits.{digits_append, signed_append, pairs_append}
@@ -25,12 +25,12 @@ pub bytes_append : (b y x : List ℕ) → bytes b (y ++ x) ≡ bytes b y ++ x
 bytes_append b y x = rw (pairs_append b y x)
 
 pub bytes?_append : (b : Option (List ℕ)) (y x : List ℕ) → bytes? b (y ++ x) ≡ bytes? b y ++ x
-bytes?_append none y x = refl
-bytes?_append (some b) y x = bytes_append b y x
+bytes?_append None y x = refl
+bytes?_append (Some b) y x = bytes_append b y x
 
 pub two?_append : (s : Option (ℕ × ℕ)) (y x : List ℕ) → two? s (y ++ x) ≡ two? s y ++ x
-two?_append none y x = refl
-two?_append (some p) y x = rw (digits_append p.1 y x) (digits_append p.0 _ x)
+two?_append None y x = refl
+two?_append (Some p) y x = rw (digits_append p.1 y x) (digits_append p.0 _ x)
 
 abbrev pub num : ℕ → Word
 num n = record { put = digits n; after = digits_append n }

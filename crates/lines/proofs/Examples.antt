@@ -2,7 +2,7 @@
 use mathlib.Core.Path.{◌≡◌, refl}
 use mathlib.Core.Bool.{true, false}
 use mathlib.Core.List.{[], ◌∷◌}
-use mathlib.Core.Option.{none, some}
+use Rattle.std.specs.Prelude.{None, Some}
 use lib.IntN.{pos, negsuc}
 use Rattle.text.specs.Words.{ascii, places, digits, signed, glyph, pairs}
 use Rattle.lines.specs.Shown.{InodeShown, embedded, streamed, packed, plain}
@@ -24,8 +24,8 @@ root = record {
   owner = 0;
   group = 0;
   mode = 16877;
-  label = none;
-  stream = none;
+  label = None;
+  stream = None;
 }
 
 -- its line
@@ -40,7 +40,7 @@ unfolding volume_line node_line contents_line total_line close digits places sig
 sample = refl
 
 -- an empty name is no absent one; sizes and a count of links below zero
-file_line : node_line (record { id = 18; parent = 2; own = 18; create = 1; modify = 2; change = 3; access = 4; iflags = 5; links = negsuc 0; bsd = 6; owner = 7; group = 8; mode = 9; label = some []; stream = some (10, 4096) }) []
+file_line : node_line (record { id = 18; parent = 2; own = 18; create = 1; modify = 2; change = 3; access = 4; iflags = 5; links = negsuc 0; bsd = 6; owner = 7; group = 8; mode = 9; label = Some []; stream = Some (10, 4096) }) []
     ≡ ascii "(node 18 2 18 1 2 3 4 5 -1 6 7 8 9 x 10,4096\n" []
 unfolding node_line digits places signed glyph pairs
 file_line = refl

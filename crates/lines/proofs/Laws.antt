@@ -3,7 +3,7 @@ use Prim.Native.Nat.{ℕ}
 use mathlib.Core.Path.{◌≡◌, ◌∙◌}
 use mathlib.Core.Bool.{Bool}
 use mathlib.Core.List.{List, [], ◌∷◌}
-use mathlib.Core.Option.{Option}
+use Rattle.std.specs.Prelude.{Option}
 use lib.IntN.{ℤ}
 use Rattle.utf8.specs.Text.{lossy}
 use Rattle.text.specs.Output.{Output, puts}
@@ -21,10 +21,6 @@ use Rattle.records.specs.declared.attribute.AttributeData.{AttributeData}
 use Rattle.records.specs.declared.attribute.AttributeData.TheVariants as contents
 use Rattle.records.specs.declared.attribute.StreamData.{StreamData}
 use Rattle.inode_record.specs.declared.fields.Dstream.{Dstream}
-use Rattle.inode_record.specs.declared.fields.NameField.{NameField}
-use Rattle.inode_record.specs.declared.fields.NameField.TheVariants as name
-use Rattle.inode_record.specs.declared.fields.StreamField.{StreamField}
-use Rattle.inode_record.specs.declared.fields.StreamField.TheVariants as stream
 use Rattle.inode_record.specs.declared.inode.Inode.{Inode}
 use Rattle.inode_record.specs.declared.inode.Times.{Times}
 use Rattle.inode_record.specs.declared.inode.Owner.{Owner}
@@ -32,6 +28,7 @@ use Rattle.lines.specs.Shown.{Form, name_shown, stream_shown, inode_shown, form_
 use Rattle.lines.specs.Lines.{bit, node_line, attribute_line}
 use Rattle.lines.specs.Inner.{form_head, attribute_head, time_words, owner_words, node_head}
 use Rattle.lines.proofs.After.{num, int, hex, hex?, nums?, words_append, times_append, owner_append, nodehead_append, attributehead_append, attribute_pieces, node_pieces}
+use Rattle.std.specs.Prelude.{None, Some}
 
 -- a piece is written from o to p, and then what follows it
 module _ (room : ℕ) (o p z : Output) where
@@ -90,18 +87,18 @@ signed_is room o z m n h e = rw e at h
 
 -- by what an inode has
 module _ (room : ℕ) (o z : Output) where
-  module _ (r : Reader) (b : List ℕ) (p : Place) (f : NameField) where
-    pub label_absent : f ≡ name.Absent → z ≡ puts room (ascii " -" []) o → z ≡ puts room (words (bytes? (name_shown r b p f) ∷ []) []) o
+  module _ (r : Reader) (b : List ℕ) (p : Place) (f : Option Name) where
+    pub label_absent : f ≡ None → z ≡ puts room (ascii " -" []) o → z ≡ puts room (words (bytes? (name_shown r b p f) ∷ []) []) o
     label_absent e h = rw e h
 
-    pub label_at : (n : Name) (l : List ℕ) → f ≡ name.At n → z ≡ puts room (words (bytes (lossy l) ∷ []) []) o → l ≡ inode_name r b p n → z ≡ puts room (words (bytes? (name_shown r b p f) ∷ []) []) o
+    pub label_at : (n : Name) (l : List ℕ) → f ≡ Some n → z ≡ puts room (words (bytes (lossy l) ∷ []) []) o → l ≡ inode_name r b p n → z ≡ puts room (words (bytes? (name_shown r b p f) ∷ []) []) o
     label_at n l e h k = rw (e, ← k) h
 
-  module _ (s : StreamField) where
-    pub stream_absent : s ≡ stream.Absent → z ≡ puts room (ascii " -" []) o → z ≡ puts room (words (two? (stream_shown s) ∷ []) []) o
+  module _ (s : Option Dstream) where
+    pub stream_absent : s ≡ None → z ≡ puts room (ascii " -" []) o → z ≡ puts room (words (two? (stream_shown s) ∷ []) []) o
     stream_absent e h = rw e h
 
-    pub stream_at : (d : Dstream) → s ≡ stream.At d → z ≡ puts room (words (digits d.size ∷ []) (ascii "," (digits d.alloced_size []))) o → z ≡ puts room (words (two? (stream_shown s) ∷ []) []) o
+    pub stream_at : (d : Dstream) → s ≡ Some d → z ≡ puts room (words (digits d.size ∷ []) (ascii "," (digits d.alloced_size []))) o → z ≡ puts room (words (two? (stream_shown s) ∷ []) []) o
     stream_at d e h = rw e h
 
   module _ (a : AttributeData) where

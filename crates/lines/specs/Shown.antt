@@ -1,7 +1,7 @@
 -- What a listing shows of a node, an entry and an attribute: plain values, with no place in the image. Document 01, "The listing (added)":
 -- "LABEL and NAME are lossy readings", "places in the image and node counts are left out".
 use Rattle.std.specs.Prelude.{ℕ, List, ℤ}
-use Rattle.std.proofs.Math.Option.{Option, none, some}
+use Rattle.std.specs.Prelude.{Option, None, Some}
 use Rattle.utf8.specs.Text.{lossy}
 use Rattle.obj.specs.declared.reader.Reader.{Reader}
 use Rattle.node.specs.declared.place.Place.{Place}
@@ -12,11 +12,9 @@ use Rattle.records.specs.declared.attribute.Attribute.{Attribute}
 use Rattle.records.specs.declared.attribute.AttributeData.{AttributeData}
 use Rattle.records.specs.declared.attribute.AttributeData.TheVariants.{Embedded, Stream}
 use Rattle.records.specs.declared.directory.Entry.{Entry}
-use Rattle.inode_record.specs.declared.fields.NameField.{NameField}
-use Rattle.inode_record.specs.declared.fields.NameField.TheVariants as name
-use Rattle.inode_record.specs.declared.fields.StreamField.{StreamField}
-use Rattle.inode_record.specs.declared.fields.StreamField.TheVariants as stream
 use Rattle.inode_record.specs.declared.inode.Inode.{Inode}
+use Rattle.names.specs.declared.Name.{Name}
+use Rattle.inode_record.specs.declared.fields.Dstream.{Dstream}
 
 -- "fields of `Inode` in the Rust's order": `own` is PRIVATE, `label` NAME
 pub record InodeShown : Type 0 where
@@ -61,14 +59,14 @@ pub data Contents : Type 0 where
   plain : List ℕ → Contents
 
 -- "`-` is absent"
-abbrev pub name_shown : Reader → List ℕ → Place → NameField → Option (List ℕ)
-name_shown r b p name.Absent = none
-name_shown r b p (name.At n) = some (lossy (inode_name r b p n))
+abbrev pub name_shown : Reader → List ℕ → Place → Option Name → Option (List ℕ)
+name_shown r b p None = None
+name_shown r b p (Some n) = Some (lossy (inode_name r b p n))
 
 -- "STREAM is size, comma, allocated size"
-abbrev pub stream_shown : StreamField → Option (ℕ × ℕ)
-stream_shown stream.Absent = none
-stream_shown (stream.At d) = some (d.size, d.alloced_size)
+abbrev pub stream_shown : Option Dstream → Option (ℕ × ℕ)
+stream_shown None = None
+stream_shown (Some d) = Some (d.size, d.alloced_size)
 
 -- what a node's line shows: "inode fields are those on the node's line"
 unfoldable pub inode_shown : Reader → List ℕ → Inode → InodeShown

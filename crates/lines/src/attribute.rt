@@ -9,12 +9,18 @@ ghost use Rattle.lines.specs.Inner.{form_head, attribute_head};
 
 use crate::word::{put_name, put_number};
 use byte_fields::Span;
+use error::Refusal;
 use obj::Reader;
 use records::{Attribute, AttributeData, StreamData, attribute_bytes, attribute_name};
-use text::{Position, put_all, put_hex};
+use text::{put_all, put_hex};
 
 // Where the contents stand, up to their first digit.
-fn put_form(out: &mut [u8], room: usize, p: Position, contents: AttributeData) -> Position
+fn put_form(
+    out: &mut [u8],
+    room: usize,
+    p: Result<usize, Refusal>,
+    contents: AttributeData,
+) -> Result<usize, Refusal>
     ensures { output_of result out.new ≡ puts room (form_head (form_shown contents) []) (output_of p out.old) }
 {
     match contents {
@@ -31,11 +37,11 @@ fn put_form(out: &mut [u8], room: usize, p: Position, contents: AttributeData) -
 pub fn put_attribute_head(
     out: &mut [u8],
     room: usize,
-    p: Position,
+    p: Result<usize, Refusal>,
     image: &[u8],
     reader: Reader,
     a: Attribute,
-) -> Position
+) -> Result<usize, Refusal>
     ensures { output_of result out.new ≡ puts room (attribute_head a.flags (lossy (attribute_name reader image.now a)) (form_shown a.contents) []) (output_of p out.old) }
 {
     let b = put_all(out, room, p, b"(attr");
@@ -49,12 +55,12 @@ pub fn put_attribute_head(
 pub fn put_attribute_embedded(
     out: &mut [u8],
     room: usize,
-    p: Position,
+    p: Result<usize, Refusal>,
     image: &[u8],
     reader: Reader,
     a: Attribute,
     span: Span,
-) -> Position
+) -> Result<usize, Refusal>
     ensures { output_of result out.new ≡ puts room (attribute_line (attribute_shown reader image.now a (attribute_bytes reader image.now a.place span)) []) (output_of p out.old) }
 {
     let place = a.place;

@@ -7,12 +7,19 @@ ghost use Rattle.lines.specs.Inner.{time_words, owner_words, node_head};
 ghost use Rattle.lines.specs.Lines.{node_line};
 
 use crate::word::{put_name, put_number, put_pair, put_signed_number, put_three};
-use inode_record::{Inode, NameField, Owner, StreamField, Times, inode_name};
+use error::Refusal;
+use inode_record::{Dstream, Inode, Owner, Times, inode_name};
+use names::Name;
 use node::Place;
 use obj::Reader;
-use text::{Position, put_all, put_byte};
+use text::{put_all, put_byte};
 
-fn put_times(out: &mut [u8], room: usize, p: Position, t: Times) -> Position
+fn put_times(
+    out: &mut [u8],
+    room: usize,
+    p: Result<usize, Refusal>,
+    t: Times,
+) -> Result<usize, Refusal>
     ensures { output_of result out.new ≡ puts room (time_words t []) (output_of p out.old) }
 {
     let a = put_number(out, room, p, t.create);
@@ -21,7 +28,12 @@ fn put_times(out: &mut [u8], room: usize, p: Position, t: Times) -> Position
     put_number(out, room, c, t.access)
 }
 
-fn put_owner(out: &mut [u8], room: usize, p: Position, o: Owner) -> Position
+fn put_owner(
+    out: &mut [u8],
+    room: usize,
+    p: Result<usize, Refusal>,
+    o: Owner,
+) -> Result<usize, Refusal>
     ensures { output_of result out.new ≡ puts room (owner_words o []) (output_of p out.old) }
 {
     let a = put_number(out, room, p, o.internal_flags);
@@ -31,7 +43,12 @@ fn put_owner(out: &mut [u8], room: usize, p: Position, o: Owner) -> Position
 }
 
 // What comes before the name.
-fn put_head(out: &mut [u8], room: usize, p: Position, inode: Inode) -> Position
+fn put_head(
+    out: &mut [u8],
+    room: usize,
+    p: Result<usize, Refusal>,
+    inode: Inode,
+) -> Result<usize, Refusal>
     ensures { output_of result out.new ≡ puts room (node_head inode []) (output_of p out.old) }
 {
     let ids = inode.ids;
@@ -43,40 +60,46 @@ fn put_head(out: &mut [u8], room: usize, p: Position, inode: Inode) -> Position
     put_owner(out, room, c, owner)
 }
 
+#[tactic(auto, using(crate::proofs::Laws::all))]
 fn put_label(
     out: &mut [u8],
     room: usize,
-    p: Position,
+    p: Result<usize, Refusal>,
     image: &[u8],
     reader: Reader,
     place: Place,
-    name: NameField,
-) -> Position
+    name: Option<Name>,
+) -> Result<usize, Refusal>
     ensures { output_of result out.new ≡ puts room (words (bytes? (name_shown reader image.now place name) ∷ []) []) (output_of p out.old) }
 {
-    match name {
-        NameField::Absent => put_all(out, room, p, b" -"),
-        NameField::At(n) => put_name(out, room, p, inode_name(reader, image, place, n)),
-    }
+    let Some(n) = name else {
+        return put_all(out, room, p, b" -");
+    };
+    put_name(out, room, p, inode_name(reader, image, place, n))
 }
 
-fn put_stream(out: &mut [u8], room: usize, p: Position, stream: StreamField) -> Position
+fn put_stream(
+    out: &mut [u8],
+    room: usize,
+    p: Result<usize, Refusal>,
+    stream: Option<Dstream>,
+) -> Result<usize, Refusal>
     ensures { output_of result out.new ≡ puts room (words (two? (stream_shown stream) ∷ []) []) (output_of p out.old) }
 {
     match stream {
-        StreamField::Absent => put_all(out, room, p, b" -"),
-        StreamField::At(d) => put_pair(out, room, p, d.size, d.alloced_size),
+        None => put_all(out, room, p, b" -"),
+        Some(d) => put_pair(out, room, p, d.size, d.alloced_size),
     }
 }
 
 pub fn put_node_line(
     out: &mut [u8],
     room: usize,
-    p: Position,
+    p: Result<usize, Refusal>,
     image: &[u8],
     reader: Reader,
     inode: Inode,
-) -> Position
+) -> Result<usize, Refusal>
     ensures { output_of result out.new ≡ puts room (node_line (inode_shown reader image.now inode) []) (output_of p out.old) }
 {
     let place = inode.place;

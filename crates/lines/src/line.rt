@@ -7,9 +7,10 @@ ghost use Rattle.lines.specs.Shown.{entry_shown};
 ghost use Rattle.lines.specs.Lines.{bit, volume_line, entry_line, extent_line, total_line};
 
 use crate::word::{put_name, put_number, put_three};
+use error::Refusal;
 use obj::Reader;
 use records::{Entry, Extent, entry_name};
-use text::{Position, put_all, put_byte};
+use text::{put_all, put_byte};
 
 fn bit_of(b: bool) -> u64
     ensures { result ≡ bit b }
@@ -23,10 +24,10 @@ fn bit_of(b: bool) -> u64
 fn put_rule(
     out: &mut [u8],
     room: usize,
-    p: Position,
+    p: Result<usize, Refusal>,
     case_insensitive: bool,
     normalization_insensitive: bool,
-) -> Position
+) -> Result<usize, Refusal>
     ensures { output_of result out.new ≡ puts room (words (digits (bit case_insensitive) ∷ digits (bit normalization_insensitive) ∷ []) []) (output_of p out.old) }
 {
     let q = put_number(out, room, p, bit_of(case_insensitive));
@@ -37,11 +38,11 @@ fn put_rule(
 pub fn put_volume_line(
     out: &mut [u8],
     room: usize,
-    p: Position,
+    p: Result<usize, Refusal>,
     case_insensitive: bool,
     normalization_insensitive: bool,
     label: &[u8],
-) -> Position
+) -> Result<usize, Refusal>
     ensures { output_of result out.new ≡ puts room (volume_line case_insensitive normalization_insensitive (lossy label.now) []) (output_of p out.old) }
 {
     let a = put_all(out, room, p, b"(volume");
@@ -53,11 +54,11 @@ pub fn put_volume_line(
 pub fn put_entry_line(
     out: &mut [u8],
     room: usize,
-    p: Position,
+    p: Result<usize, Refusal>,
     image: &[u8],
     reader: Reader,
     e: Entry,
-) -> Position
+) -> Result<usize, Refusal>
     ensures { output_of result out.new ≡ puts room (entry_line (entry_shown reader image.now e) []) (output_of p out.old) }
 {
     let a = put_all(out, room, p, b"(entry");
@@ -66,7 +67,12 @@ pub fn put_entry_line(
     put_byte(out, room, c, b'\n')
 }
 
-pub fn put_extent_line(out: &mut [u8], room: usize, p: Position, e: Extent) -> Position
+pub fn put_extent_line(
+    out: &mut [u8],
+    room: usize,
+    p: Result<usize, Refusal>,
+    e: Extent,
+) -> Result<usize, Refusal>
     ensures { output_of result out.new ≡ puts room (extent_line e []) (output_of p out.old) }
 {
     let a = put_all(out, room, p, b"(extent");
@@ -77,11 +83,11 @@ pub fn put_extent_line(out: &mut [u8], room: usize, p: Position, e: Extent) -> P
 pub fn put_total_line(
     out: &mut [u8],
     room: usize,
-    p: Position,
+    p: Result<usize, Refusal>,
     nodes: u64,
     bytes: u64,
     attrs: u64,
-) -> Position
+) -> Result<usize, Refusal>
     ensures { output_of result out.new ≡ puts room (total_line nodes bytes attrs []) (output_of p out.old) }
 {
     let a = put_all(out, room, p, b"(total");

@@ -1,5 +1,4 @@
 pub mod Names
-pub mod Feeding
 pub mod Pouring
 pub mod Targets
 pub mod Answers

@@ -1,13 +1,11 @@
 -- The bytes of a stream, as the code feeds them.
-use Prim.Native.Nat.{ℕ, ◌*◌, ◌-◌, ◌≤◌, ◌<◌, min}
-use mathlib.Core.Path.{◌≡◌, refl, sym, ap, ◌∙◌}
+use Prim.Native.Nat.{ℕ, ◌-◌}
+use mathlib.Core.Path.{◌≡◌, sym, ap, ◌∙◌}
 use mathlib.Core.Bool.{Bool}
 use mathlib.Core.List.{List, ◌++◌, append_assoc}
-use lib.ListN.{length, replicate}
+use lib.ListN.{replicate}
 use Rattle.error.specs.Answer.{Answer}
 use Rattle.error.specs.declared.Refusal.{Refusal}
-use Rattle.error.proofs.Laws.{at_most_lem, above}
-use Rattle.byte_fields.specs.Part.{part_of}
 use Rattle.feed.specs.declared.feed.Feed.{Feed}
 use Rattle.btree.specs.Scan.{Run, scan_of}
 use Rattle.btree.specs.declared.entries.Search.{Search}
@@ -18,38 +16,18 @@ use Rattle.volume.specs.declared.Volume.{Volume}
 use Rattle.records.specs.Extent.{extent_at}
 use Rattle.records.specs.declared.extent.Extent.{Extent}
 use Rattle.lists.specs.Lists.{search_of}
-use Rattle.lists.specs.Seen.{Seen, over, passed, element, refusal, seen_in}
+use Rattle.lists.specs.declared.seen.Seen.{Seen}
+use Rattle.lists.specs.declared.seen.Seen.TheVariants.{Over, Passed, Element, Refused}
+use Rattle.lists.specs.Seen.{seen_in}
 use Rattle.extents.specs.Extents.{Disk, disk_of}
-use Rattle.streams.specs.Inner.{taken, wanted_of, next_pos, step_bytes, run_bytes, stream_bytes}
-use Rattle.streams.proofs.StreamLaws.{taken_sparse, taken_real}
-use Rattle.streams.proofs.Laws as stream-laws
-use Rattle.streams.proofs.Pouring.{drop_least, bytes_over, bytes_no, bytes_at, bytes_passed}
+use Rattle.streams.specs.Inner.{next_pos, step_bytes, run_bytes, stream_bytes}
+use Rattle.lists.proofs.Turns.{turns}
+use Rattle.streams.proofs.Pouring.{bytes_over, bytes_no, bytes_at, bytes_passed}
 use Rattle.links.specs.Inner.{fed_as}
 
 -- r, to which x still comes, gives what f gives, to which y comes
 pub record Feeds (raw : Bool) (room : ℕ) (r : Feed) (c x : List ℕ) (f : Feed) (b y : List ℕ) : Type 0 where
   pub as_one : (xs : List ℕ) → fed_as raw room r c (x ++ xs) ≡ fed_as raw room f b (y ++ xs)
-
-module _ (raw : Bool) (room : ℕ) (f r : Feed) (b c xs : List ℕ) (d : Disk) (e : Extent) (n : ℕ) where
-  pub zeros_taken : e.phys_block ≡ 0 → ((ys : List ℕ) → fed_as raw room r c ys ≡ fed_as raw room f b (replicate n 0 ++ ys)) → fed_as raw room r c xs ≡ fed_as raw room f b (taken d e n ++ xs)
-  zeros_taken h k = rw (taken_sparse d e n h) (k xs)
-
-  pub part_taken : (k : ℕ) (x : List ℕ) → (e.phys_block ≡ 0 → ⊥) → k ≡ min (e.phys_block * d.block) (length d.image) → x ≡ part_of d.image (record { start = k; len = n })
-      → ((ys : List ℕ) → fed_as raw room r c ys ≡ fed_as raw room f b (x ++ ys)) → fed_as raw room r c xs ≡ fed_as raw room f b (taken d e n ++ xs)
-  unfolding part_of
-  part_taken k x h p q g = rw (taken_real d e n h) (rw (q, p, drop_least (e.phys_block * d.block) d.image) at (g xs))
-
-module _ (raw : Bool) (room : ℕ) (f : Feed) (b xs : List ℕ) (d : Disk) (size pos : ℕ) (e : Extent) where
-  pub step_none : size ≤ pos → fed_as raw room f b xs ≡ fed_as raw room f b (step_bytes d size pos e ++ xs)
-  unfolding step_bytes
-  step_none h = ap (λ (x : List ℕ). fed_as raw room f b (x ++ xs)) (at_most_lem _ _ _ _ _ h refl)
-
-  pub step_some : (g r : Feed) (c o : List ℕ) (a m w : ℕ) → pos < size → a ≡ min e.logical size → m ≡ a - pos → ((ys : List ℕ) → fed_as raw room g c ys ≡ fed_as raw room f b (replicate m 0 ++ ys)) → w ≡ wanted_of size e
-      → ((ys : List ℕ) → fed_as raw room r o ys ≡ fed_as raw room g c (taken d e w ++ ys)) → fed_as raw room r o xs ≡ fed_as raw room f b (step_bytes d size pos e ++ xs)
-  unfolding step_bytes
-  step_some g r c o a m w h p q k l u =
-      let z : replicate m 0 ++ taken d e w ≡ step_bytes d size pos e = above _ _ _ _ _ h (rw (q, p, l)) in
-      u xs ∙ k (taken d e w ++ xs) ∙ rw (← z, append_assoc)
 
 -- the turns of the loop
 pub stream_start : (raw : Bool) (room : ℕ) (f : Feed) (o : List ℕ) (g : Place → Answer Extent) (d : Disk) (size : ℕ) (r n : Run) → r ≡ n
@@ -58,16 +36,16 @@ stream_start raw room f o g d size r n e = record { as_one = λ xs. rw e }
 
 module _ (raw : Bool) (room : ℕ) (h f : Feed) (o u y : List ℕ) (g : Place → Answer Extent) (d : Disk) (size pos : ℕ) (b : List ℕ) (q : Search) (s : Step) (i : ℕ)
     (inv : Feeds raw room h o (run_bytes g d size pos (run_at b q s i)) f u y) (x : Seen Extent) (t : x ≡ seen_in g (in_step b q s.reached i)) where
-  pub stream_end : (n : ℕ) (r : Feed) (c xs : List ℕ) → x ≡ over → n ≡ size - pos → ((ys : List ℕ) → fed_as raw room r c ys ≡ fed_as raw room h o (replicate n 0 ++ ys)) → fed_as raw room r c xs ≡ fed_as raw room f u (y ++ xs)
+  pub stream_end : (n : ℕ) (r : Feed) (c xs : List ℕ) → x ≡ Over → n ≡ size - pos → ((ys : List ℕ) → fed_as raw room r c ys ≡ fed_as raw room h o (replicate n 0 ++ ys)) → fed_as raw room r c xs ≡ fed_as raw room f u (y ++ xs)
   stream_end n r c xs e k l = l xs ∙ rw k (rw (bytes_over g d size pos b q s i x t e) at (inv.as_one xs))
 
-  pub stream_no : (w : Refusal) (xs : List ℕ) → x ≡ refusal w → fed_as raw room h o xs ≡ fed_as raw room f u (y ++ xs)
+  pub stream_no : (w : Refusal) (xs : List ℕ) → x ≡ Refused w → fed_as raw room h o xs ≡ fed_as raw room f u (y ++ xs)
   stream_no w xs e = rw (bytes_no g d size pos b q s i x t w e) at (inv.as_one xs)
 
-  pub stream_passed : (n : Step) → x ≡ passed → Begins b q n (left b q s.path s.level s.nodes) → Feeds raw room h o (run_bytes g d size pos (run_at b q n n.from)) f u y
+  pub stream_passed : (n : Step) → x ≡ Passed → Begins b q n (left b q s.path s.level s.nodes) → Feeds raw room h o (run_bytes g d size pos (run_at b q n n.from)) f u y
   stream_passed n e k = rw (bytes_passed g d size pos b q s i x t n e k) inv
 
-  pub stream_next : (e : Extent) (a m : ℕ) (z : Feed) (c : List ℕ) → x ≡ element e a → ((ys : List ℕ) → fed_as raw room z c ys ≡ fed_as raw room h o (step_bytes d size pos e ++ ys)) → m ≡ next_pos size pos e
+  pub stream_next : (e : Extent) (a m : ℕ) (z : Feed) (c : List ℕ) → x ≡ Element e a → ((ys : List ℕ) → fed_as raw room z c ys ≡ fed_as raw room h o (step_bytes d size pos e ++ ys)) → m ≡ next_pos size pos e
       → Feeds raw room z c (run_bytes g d size m (run_at b q s a)) f u y
   stream_next e a m z c k l v = record {
     as_one = λ xs.
@@ -81,6 +59,4 @@ pub stream_done : (raw : Bool) (room : ℕ) (f r : Feed) (i c xs : List ℕ) (b 
 unfolding stream_bytes
 stream_done raw room f r i c xs b v object size s q e h = rw e at h
 
-pub ruleset pours = (stream-laws.all, zeros_taken, part_taken, step_none, step_some)
-
-pub ruleset pouring = (stream-laws.all, stream_start, stream_end, stream_no, stream_passed, stream_done)
+pub ruleset pouring = (turns, stream_start, stream_passed, stream_next)

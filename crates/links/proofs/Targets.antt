@@ -3,45 +3,24 @@ use Prim.Native.Nat.{ℕ}
 use mathlib.Core.Path.{◌≡◌, refl, ◌∙◌}
 use mathlib.Core.Bool.{Bool}
 use mathlib.Core.List.{List, [], ◌++◌, append-nil}
-use borrow.Author.Rules.{rules}
-use Rattle.error.specs.Answer.{got}
-use Rattle.byte_fields.specs.declared.Span.{Span}
+use Rattle.std.specs.Prelude.{Option, None, Some}
+use Rattle.error.specs.Answer.{Answer, Ok, Err}
 use Rattle.text.specs.Output.{Output, at, puts}
 use Rattle.feed.specs.declared.feed.Feed.{Feed}
-use Rattle.lookup.specs.Counted.{Counted, after, onto}
+use Rattle.lookup.specs.Counted.{after, onto}
 use Rattle.node.specs.declared.place.Place.{Place}
 use Rattle.volume.specs.declared.Volume.{Volume}
-use Rattle.records.specs.Attribute.{attribute_bytes}
 use Rattle.records.specs.declared.attribute.AttributeData.{AttributeData}
 use Rattle.records.specs.declared.attribute.AttributeData.TheVariants.{Embedded, Stream}
-use Rattle.records.specs.declared.attribute.StreamData.{StreamData}
-use Rattle.extents.specs.Verdict.{fine}
-use Rattle.streams.specs.Streams.{settled_of}
-use Rattle.streams.specs.Inner.{stream_bytes}
 use Rattle.streams.proofs.Contents.{stream_settled}
-use Rattle.links.specs.Link.{contents_by}
-use Rattle.links.specs.Inner.{settled_by, bytes_by, fed_as, begun_as}
-
-module _ (b : List ℕ) (v : Volume) (d : AttributeData) (s : ℕ) where
-  pub settled_embedded : (x : Span) → d ≡ Embedded x → after s fine ≡ settled_by b v d s
-  unfolding settled_by
-  settled_embedded x e = rw e
-
-  pub settled_stream : (x : StreamData) (z : Counted (Unit {0})) → d ≡ Stream x → z ≡ settled_of b v x.object x.size s → z ≡ settled_by b v d s
-  unfolding settled_by
-  settled_stream x z e h = rw e h
-
-  module _ (p : Place) (raw : Bool) (room : ℕ) (f r : Feed) (o c xs : List ℕ) where
-    pub pushed_embedded : (x : Span) (y : List ℕ) → d ≡ Embedded x → y ≡ attribute_bytes v.reader b p x → ((ys : List ℕ) → fed_as raw room r c ys ≡ fed_as raw room f o (y ++ ys)) → fed_as raw room r c xs ≡ fed_as raw room f o (bytes_by b v p d s ++ xs)
-    unfolding bytes_by
-    pushed_embedded x y e h k = rw (e, ← h) (k xs)
-
-    pub pushed_stream : (x : StreamData) → d ≡ Stream x → ((ys : List ℕ) → fed_as raw room r c ys ≡ fed_as raw room f o (stream_bytes b v x.object x.size s ++ ys)) → fed_as raw room r c xs ≡ fed_as raw room f o (bytes_by b v p d s ++ xs)
-    unfolding bytes_by
-    pushed_stream x e k = rw e (k xs)
+use Rattle.records.specs.declared.attribute.Attribute.{Attribute}
+use Rattle.inode_record.specs.declared.inode.Inode.{Inode}
+use Rattle.links.specs.Named.{attribute_named}
+use Rattle.links.specs.Link.{contents_by, target_of, target_in, symlink_name, link_reading}
+use Rattle.links.specs.Inner.{settled_by, bytes_by, fed_as, begun_as, there, link_attribute}
 
 -- the contents are what settling them refuses, and else the bytes
-pub contents_settled : (b : List ℕ) (v : Volume) (p : Place) (d : AttributeData) (s : ℕ) → contents_by b v p d s ≡ (onto (settled_by b v d s) λ u t. after t (got (bytes_by b v p d s)))
+pub contents_settled : (b : List ℕ) (v : Volume) (p : Place) (d : AttributeData) (s : ℕ) → contents_by b v p d s ≡ (onto (settled_by b v d s) λ u t. after t (Ok (bytes_by b v p d s)))
 unfolding contents_by settled_by bytes_by
 contents_settled b v p (Embedded x) s = refl
 contents_settled b v p (Stream d) s = stream_settled b v d.object d.size s
@@ -51,4 +30,12 @@ pub contents_put : (raw marks : Bool) (room : ℕ) (f g : Feed) (o c x : List �
     → ((ys : List ℕ) → fed_as raw room g c ys ≡ fed_as raw room f o (x ++ ys)) → z ≡ fed_as raw room g c [] → z ≡ puts room (begun_as raw marks x) (at o 0)
 contents_put raw marks room f g o c x z h k e = e ∙ k [] ∙ h room o (x ++ []) ∙ rw append-nil
 
-pub ruleset targets = (rules, settled_embedded, settled_stream, pushed_embedded, pushed_stream)
+-- what a link reads is what its attribute reads
+pub link_by : (b : List ℕ) (v : Volume) (i : Inode) (s : ℕ) → link_reading b v i s ≡ (onto (link_attribute b v i s) λ a t. target_of b v a t)
+unfolding link_reading link_attribute
+link_by b v i s = of (attribute_named b v i.id symlink_name s).nodes (attribute_named b v i.id symlink_name s).answer
+  where
+    of : (n : ℕ) (c : Answer (Option Attribute)) → (onto (after n c) λ o t. target_in b v o t) ≡ (onto (after n (there c)) λ a t. target_of b v a t)
+    of n (Ok (Some a)) = refl
+    of n (Ok None) = refl
+    of n (Err w) = refl

@@ -5,27 +5,26 @@ ghost use Rattle.text.specs.Output.{at, output_of, puts};
 ghost use Rattle.feed.specs.Fed.{written_as};
 ghost use Rattle.streams.specs.Streams.{stream_of};
 ghost use Rattle.streams.specs.Inner.{stream_bytes};
-ghost use Rattle.links.specs.Link.{contents_of, link_reading, replaced_of, numbered};
+ghost use Rattle.links.specs.Link.{contents_of, link_reading, replaced_of};
 ghost use Rattle.links.specs.Inner.{counted_in};
 
-use crate::named::attribute_named;
+use crate::named::link_attribute;
 use crate::pour::push_stream;
 use crate::raw::{feed_begin, feed_end};
-use byte_fields::{Number, cstr};
-use calls::{Written, number_at};
+use byte_fields::cstr;
+use calls::number_at;
 use error::Refusal;
-use extents::Ruling;
 use inode_record::Inode;
-use lists::AttributeAt;
+use lookup::Counted;
 use records::{Attribute, AttributeData, attribute_bytes};
 use streams::settle_stream;
-use text::Position;
 use utf8::replaced_parts;
 use volume::Volume;
 
-const ROOM: usize = 18446744073709551615;
+const ROOM: usize = usize::MAX;
 
 // A mark for each part that is replaced in the bytes of a stream.
+#[tactic(auto, using(crate::proofs::Targets::contents_put), unfolding(crate::specs::Inner::begun_as))]
 fn put_marks(
     out: &mut [u8],
     image: &[u8],
@@ -33,7 +32,7 @@ fn put_marks(
     object: u64,
     size: u64,
     nodes: u64,
-) -> Position
+) -> Result<usize, Refusal>
     ensures { output_of result out.new ≡ puts 18446744073709551615 (written_as true (up_to_zero (stream_bytes image.now v object size nodes))) (at out.old 0) }
 {
     let f = feed_begin(false, true);
@@ -42,37 +41,35 @@ fn put_marks(
 }
 
 // No mark is stored: there are no more of them than the stream has bytes.
-fn stream_replaced(image: &[u8], v: Volume, object: u64, size: u64, nodes: u64) -> Written
-    ensures { numbered result ≡ counted_in (stream_of image.now v object size nodes) }
+#[tactic(auto, using(crate::proofs::Counting::stream_counted, crate::proofs::Counting::stream_uncounted))]
+fn stream_replaced(image: &[u8], v: Volume, object: u64, size: u64, nodes: u64) -> Counted<u64>
+    ensures { result ≡ counted_in (stream_of image.now v object size nodes) }
 {
     let s = settle_stream(image, v, object, size, nodes);
-    let ruling = s.ruling;
-    match ruling {
-        Ruling::Fine => {
+    match s.answer {
+        Ok(()) => {
             let mut none = [0u8; 1];
-            Written {
-                count: number_at(put_marks(&mut none[..0], image, v, object, size, nodes)),
+            Counted {
+                answer: number_at(put_marks(&mut none[..0], image, v, object, size, nodes)),
                 nodes: s.nodes,
             }
         }
-        Ruling::No(e) => Written {
-            count: Number::No(e),
+        Err(e) => Counted {
+            answer: Err(e),
             nodes: s.nodes,
         },
     }
 }
 
-fn contents_replaced(image: &[u8], v: Volume, a: Attribute, nodes: u64) -> Written
-    ensures { numbered result ≡ counted_in (contents_of image.now v a nodes) }
+#[tactic(auto, unfolding(crate::specs::Link::contents_by))]
+fn contents_replaced(image: &[u8], v: Volume, a: Attribute, nodes: u64) -> Counted<u64>
+    ensures { result ≡ counted_in (contents_of image.now v a nodes) }
 {
-    let reader = v.reader;
-    let place = a.place;
-    let contents = a.contents;
-    match contents {
+    match a.contents {
         AttributeData::Embedded(span) => {
-            let text = cstr(attribute_bytes(reader, image, place, span));
-            Written {
-                count: Number::Got(replaced_parts(text) as u64),
+            let text = cstr(attribute_bytes(v.reader, image, a.place, span));
+            Counted {
+                answer: Ok(replaced_parts(text) as u64),
                 nodes: nodes,
             }
         }
@@ -81,19 +78,15 @@ fn contents_replaced(image: &[u8], v: Volume, a: Attribute, nodes: u64) -> Writt
 }
 
 // Of a symbolic link's text.
-pub fn link_replaced(image: &[u8], v: Volume, inode: Inode, nodes: u64) -> Written
-    ensures { numbered result ≡ replaced_of (link_reading image.now v inode nodes) }
+#[tactic(auto, using(crate::proofs::Counting::link_uncounted))]
+pub fn link_replaced(image: &[u8], v: Volume, inode: Inode, nodes: u64) -> Counted<u64>
+    ensures { result ≡ replaced_of (link_reading image.now v inode nodes) }
 {
-    let f = attribute_named(image, v, inode.id, b"com.apple.fs.symlink", nodes);
-    let found = f.attribute;
-    match found {
-        AttributeAt::At(a) => contents_replaced(image, v, a, f.nodes),
-        AttributeAt::Nothing => Written {
-            count: Number::No(Refusal::Corrupt),
-            nodes: f.nodes,
-        },
-        AttributeAt::No(e) => Written {
-            count: Number::No(e),
+    let f = link_attribute(image, v, inode, nodes);
+    match f.answer {
+        Ok(a) => contents_replaced(image, v, a, f.nodes),
+        Err(e) => Counted {
+            answer: Err(e),
             nodes: f.nodes,
         },
     }

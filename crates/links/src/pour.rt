@@ -7,15 +7,15 @@ ghost use Rattle.links.specs.Inner.{fed_as};
 use crate::raw::{feed_all, feed_zeros};
 use byte_fields::{Span, part};
 use cursor::{first, next};
-use extents::smaller;
 use feed::Feed;
-use lists::{ExtentIn, extent_in, search};
+use lists::{Seen, extent_in, search};
 use obj::Reader;
 use records::Extent;
-use streams::{begins, less, next_pos, wanted};
+use streams::{begins, next_pos, wanted};
 use volume::Volume;
 
 // The first n bytes of an extent.
+#[tactic(auto, using(streams::proofs::Pouring::drop_least), unfolding(streams::specs::Inner::taken, byte_fields::specs::Part::part_of, error::specs::Answer::if_eq))]
 fn push_taken(
     out: &mut [u8],
     room: usize,
@@ -39,6 +39,7 @@ fn push_taken(
 }
 
 // The gap before an extent, and its bytes.
+#[tactic(auto, unfolding(streams::specs::Inner::step_bytes, error::specs::Answer::if_le))]
 fn push_step(
     out: &mut [u8],
     room: usize,
@@ -55,13 +56,13 @@ fn push_step(
     if size <= pos {
         return f;
     }
-    let a = smaller(e.logical, size);
-    let gap = less(a, pos);
+    let gap = e.logical.min(size).saturating_sub(pos);
     let g = feed_zeros(out, room, raw, f, gap);
     push_taken(out, room, raw, g, image, reader, e, wanted(size, e))
 }
 
 // All bytes of a stream.
+#[tactic(auto, using(crate::proofs::Pouring::pouring))]
 pub fn push_stream(
     out: &mut [u8],
     room: usize,
@@ -76,23 +77,20 @@ pub fn push_stream(
     ensures { (xs : List ℕ) → fed_as raw room result out.new xs ≡ fed_as raw room f out.old (stream_bytes image.now v object size nodes ++ xs) }
 {
     let q = search(v, object, 8);
-    let keys = q.keys;
     let reader = v.reader;
     let mut g = f;
     let mut pos: u64 = 0;
     let mut s = first(image, q, nodes);
     let mut i = s.from;
     loop {
-        let at = s.reached;
-        match extent_in(image, keys, at, i) {
-            ExtentIn::Over => return feed_zeros(out, room, raw, g, less(size, pos)),
-            ExtentIn::No(_) => return g,
-            ExtentIn::Passed => {
-                let c = s.path;
-                s = next(image, q, c, s.level, s.nodes);
+        match extent_in(image, q.keys, s.reached, i) {
+            Seen::Over => return feed_zeros(out, room, raw, g, size.saturating_sub(pos)),
+            Seen::Refused(_) => return g,
+            Seen::Passed => {
+                s = next(image, q, s.path, s.level, s.nodes);
                 i = s.from;
             }
-            ExtentIn::At(e, after) => {
+            Seen::Element(e, after) => {
                 g = push_step(out, room, raw, g, image, reader, size, pos, e);
                 pos = next_pos(size, pos, e);
                 i = after;

@@ -1,36 +1,34 @@
 // The contents of an attribute, as they are or read as a text.
 ghost use Rattle.std.specs.Prelude.{◌≡◌, List, ◌++◌, ℕ};
-ghost use Rattle.byte_fields.specs.Number.{told};
 ghost use Rattle.text.specs.Output.{at, output_of, puts};
-ghost use Rattle.streams.specs.Streams.{settled_told};
 ghost use Rattle.calls.specs.Filled.{filled};
 ghost use Rattle.links.specs.Inner.{fed_as, read_as, settled_contents, content_bytes};
 
 use crate::pour::push_stream;
 use crate::raw::{feed_all, feed_begin, feed_end};
-use byte_fields::Number;
 use calls::number_at;
-use extents::Ruling;
+use error::Refusal;
 use feed::Feed;
+use lookup::Counted;
 use records::{Attribute, AttributeData, attribute_bytes};
-use streams::{Settled, settle_stream};
-use text::Position;
+use streams::settle_stream;
 use volume::Volume;
 
 // Whether the contents can be read.
-pub fn settle_contents(image: &[u8], v: Volume, a: Attribute, nodes: u64) -> Settled
-    ensures { settled_told result ≡ settled_contents image.now v a nodes }
+#[tactic(auto, unfolding(crate::specs::Inner::settled_by))]
+pub fn settle_contents(image: &[u8], v: Volume, a: Attribute, nodes: u64) -> Counted<()>
+    ensures { result ≡ settled_contents image.now v a nodes }
 {
-    let contents = a.contents;
-    match contents {
-        AttributeData::Embedded(_) => Settled {
-            ruling: Ruling::Fine,
+    match a.contents {
+        AttributeData::Embedded(_) => Counted {
+            answer: Ok(()),
             nodes: nodes,
         },
         AttributeData::Stream(d) => settle_stream(image, v, d.object, d.size, nodes),
     }
 }
 
+#[tactic(auto, unfolding(crate::specs::Inner::bytes_by))]
 fn push_contents(
     out: &mut [u8],
     room: usize,
@@ -43,17 +41,11 @@ fn push_contents(
 ) -> Feed
     ensures { (xs : List ℕ) → fed_as raw room result out.new xs ≡ fed_as raw room f out.old (content_bytes image.now v a nodes ++ xs) }
 {
-    let reader = v.reader;
-    let place = a.place;
-    let contents = a.contents;
-    match contents {
-        AttributeData::Embedded(span) => feed_all(
-            out,
-            room,
-            raw,
-            f,
-            attribute_bytes(reader, image, place, span),
-        ),
+    match a.contents {
+        AttributeData::Embedded(span) => {
+            let bytes = attribute_bytes(v.reader, image, a.place, span);
+            feed_all(out, room, raw, f, bytes)
+        }
         AttributeData::Stream(d) => {
             push_stream(out, room, raw, f, image, v, d.object, d.size, nodes)
         }
@@ -61,6 +53,7 @@ fn push_contents(
 }
 
 // From the buffer's start on.
+#[tactic(auto, using(crate::proofs::Targets::contents_put))]
 fn put_contents(
     out: &mut [u8],
     room: usize,
@@ -69,7 +62,7 @@ fn put_contents(
     v: Volume,
     a: Attribute,
     nodes: u64,
-) -> Position
+) -> Result<usize, Refusal>
     ensures { output_of result out.new ≡ puts room (read_as raw (content_bytes image.now v a nodes)) (at out.old 0) }
 {
     let f = feed_begin(raw, false);
@@ -78,12 +71,18 @@ fn put_contents(
 }
 
 // Measured first: a buffer that is too short is left as it was.
-pub fn show(image: &[u8], v: Volume, a: Attribute, raw: bool, out: &mut [u8], nodes: u64) -> Number
-    ensures { record { answer = told result; buffer = out.new } ≡ filled (read_as raw (content_bytes image.now v a nodes)) out.old }
+#[tactic(auto, using(calls::proofs::Filling::filled_short, calls::proofs::Filling::filled_written, calls::proofs::Filling::filled_told))]
+pub fn show(
+    image: &[u8],
+    v: Volume,
+    a: Attribute,
+    raw: bool,
+    out: &mut [u8],
+    nodes: u64,
+) -> Result<u64, Refusal>
+    ensures { record { answer = result; buffer = out.new } ≡ filled (read_as raw (content_bytes image.now v a nodes)) out.old }
 {
     let room = out.len();
-    match put_contents(&mut out[..0], room, raw, image, v, a, nodes) {
-        Position::No(e) => Number::No(e),
-        Position::At(_) => number_at(put_contents(out, room, raw, image, v, a, nodes)),
-    }
+    put_contents(&mut out[..0], room, raw, image, v, a, nodes)?;
+    number_at(put_contents(out, room, raw, image, v, a, nodes))
 }

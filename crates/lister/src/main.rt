@@ -1,12 +1,11 @@
 // The lister: an image of at most 65,536 bytes on standard input, the listing of its volume 0 on standard output. Document 01, "The listing (added)".
 #![tactic(auto)]
 
-use byte_fields::{Sliced, Span, part};
+use byte_fields::{Span, part};
 use checkpoints::Choice;
 use error::{Refusal, number_of};
 use gpt::part_of_image;
 use listing::list_text;
-use text::Position;
 use volume::Which;
 
 fn print_refusal(e: Refusal) {
@@ -15,12 +14,12 @@ fn print_refusal(e: Refusal) {
     io::write_all(1, b")\n");
 }
 
-fn print_listing(p: Position, out: &[u8]) {
+fn print_listing(p: Result<usize, Refusal>, out: &[u8]) {
     match p {
-        Position::At(n) => {
+        Ok(n) => {
             io::write_all(1, part(out, Span { start: 0, len: n }));
         }
-        Position::No(e) => print_refusal(e),
+        Err(e) => print_refusal(e),
     }
 }
 
@@ -34,7 +33,7 @@ fn main() {
     let stick = &image[..n];
     let mut out = [0u8; 65536];
     match part_of_image(stick) {
-        Sliced::Got(s) => {
+        Ok(s) => {
             let p = list_text(
                 part(stick, s),
                 Which {
@@ -43,9 +42,9 @@ fn main() {
                 },
                 &mut out,
             );
-            let at = p.at;
+            let at = p.answer;
             print_listing(at, &out);
         }
-        Sliced::No(e) => print_refusal(e),
+        Err(e) => print_refusal(e),
     }
 }

@@ -1,8 +1,9 @@
 -- What the listing leaves of its buffer. Document 01, "The listing (added)" and "Answers other than success": "A refused listing leaves its buffer all
 -- zeros", "Success writes nothing past its answer".
 use Rattle.std.specs.Prelude.{ℕ, List, ◌++◌, length, drop, replicate}
-use Rattle.error.specs.Answer.{Answer, got, no}
-use Rattle.lookup.specs.Counted.{Counted, after, onto}
+use Rattle.error.specs.Answer.{Answer, Ok, Err}
+use Rattle.lookup.specs.declared.counted.Counted.{Counted}
+use Rattle.lookup.specs.Counted.{after, onto}
 use Rattle.volume.specs.Open.{volume_of_image}
 use Rattle.volume.specs.declared.Volume.{Volume}
 use Rattle.volume.specs.declared.Which.{Which}
@@ -12,8 +13,8 @@ use Rattle.demand.specs.Demand.{view_of, listing_of_part}
 use Rattle.forms.specs.Course.{nodes_into}
 
 abbrev pub listed_of : Answer (List ℕ) → List ℕ → Filled
-listed_of (got t) b = record { answer = got (length t); buffer = t ++ drop (length t) b }
-listed_of (no e) b = record { answer = no e; buffer = replicate (length b) 0 }
+listed_of (Ok t) b = record { answer = Ok (length t); buffer = t ++ drop (length t) b }
+listed_of (Err e) b = record { answer = Err e; buffer = replicate (length b) 0 }
 
 -- ---- with the nodes gone through: document 02, request 06
 

@@ -1,6 +1,6 @@
 // The whole listing of a volume, into a buffer that the caller lends.
 ghost use Rattle.std.specs.Prelude.{◌≡◌, length};
-ghost use Rattle.error.specs.Answer.{no};
+ghost use Rattle.error.specs.Answer.{Err};
 ghost use Rattle.text.specs.Output.{output_of, at, puts};
 ghost use Rattle.calls.specs.Filled.{filled_at, called_by};
 ghost use Rattle.demand.specs.Listing.{foot_lines, trace};
@@ -10,19 +10,24 @@ ghost use Rattle.forms.specs.Inner.{run};
 ghost use Rattle.listing.specs.Listed.{listed_of, listed_by, listed_on, list_counted};
 ghost use Rattle.listing.specs.Inner.{body_of, Inside, foot_after};
 
-use calls::Progress;
 use demand::levels;
 use error::Refusal;
 use label::label_of;
 use lines::{put_total_line, put_volume_line};
 use lists::ROOT;
+use lookup::Counted;
 use node_forms::put_node;
-use text::{Position, clear, put_all};
+use text::{clear, put_all};
 use totals::{Totals, totals_in};
-use volume::{Volume, VolumeOpening, Which, name_rule, open_at};
+use volume::{Volume, Which, name_rule, open_at};
 
 // The totals, and the last bracket.
-pub fn put_foot(out: &mut [u8], room: usize, p: Position, t: Totals) -> Position
+pub fn put_foot(
+    out: &mut [u8],
+    room: usize,
+    p: Result<usize, Refusal>,
+    t: Totals,
+) -> Result<usize, Refusal>
     ensures { output_of result out.new ≡ puts room (foot_lines t) (output_of p out.old) }
 {
     let q = put_total_line(out, room, p, t.nodes, t.bytes, t.attrs);
@@ -30,13 +35,13 @@ pub fn put_foot(out: &mut [u8], room: usize, p: Position, t: Totals) -> Position
 }
 
 // The foot of the text up to the position.
-fn put_own_foot(out: &mut [u8], room: usize, p: Position) -> Position
+fn put_own_foot(out: &mut [u8], room: usize, p: Result<usize, Refusal>) -> Result<usize, Refusal>
     requires { Inside p out.old }
     ensures { output_of result out.new ≡ foot_after room (output_of p out.old) }
 {
     match p {
-        Position::No(e) => Position::No(e),
-        Position::At(n) => {
+        Err(e) => Err(e),
+        Ok(n) => {
             let t = totals_in(&out[..n]);
             put_foot(out, room, p, t)
         }
@@ -44,72 +49,72 @@ fn put_own_foot(out: &mut [u8], room: usize, p: Position) -> Position
 }
 
 // All above the foot, with its nodes after those of opening.
-pub fn put_body(out: &mut [u8], room: usize, image: &[u8], v: Volume, nodes: u64) -> Progress
-    ensures { (output_of result.at out.new ≡ run room (body_of image.now v) (at out.old 0)) × (result.nodes ≡ nodes_into room image.now v nodes) }
+pub fn put_body(out: &mut [u8], room: usize, image: &[u8], v: Volume, nodes: u64) -> Counted<usize>
+    ensures { (output_of result.answer out.new ≡ run room (body_of image.now v) (at out.old 0)) × (result.nodes ≡ nodes_into room image.now v nodes) }
 {
     let rule = name_rule(v);
     let label = label_of(image, v);
-    let a = Progress {
-        at: put_volume_line(
+    let a = Counted {
+        answer: put_volume_line(
             out,
             room,
-            Position::At(0),
+            Ok(0),
             rule.case_insensitive,
             rule.normalization_insensitive,
             label,
         ),
         nodes: nodes,
     };
-    let line = a.at;
-    if let Position::No(_) = line {
+    let line = a.answer;
+    if let Err(_) = line {
         return a;
     }
     put_node(out, room, a, image, v, ROOT, levels())
 }
 
-fn put_listing(out: &mut [u8], image: &[u8], v: Volume, nodes: u64) -> Progress
-    ensures { (output_of result.at out.new ≡ run (length out.old) (trace (view_of image.now v)) (at out.old 0)) × (result.nodes ≡ nodes_into (length out.old) image.now v nodes) }
+fn put_listing(out: &mut [u8], image: &[u8], v: Volume, nodes: u64) -> Counted<usize>
+    ensures { (output_of result.answer out.new ≡ run (length out.old) (trace (view_of image.now v)) (at out.old 0)) × (result.nodes ≡ nodes_into (length out.old) image.now v nodes) }
 {
     let room = out.len();
     let p = put_body(out, room, image, v, nodes);
-    let at = p.at;
-    Progress {
-        at: put_own_foot(out, room, at),
+    let at = p.answer;
+    Counted {
+        answer: put_own_foot(out, room, at),
         nodes: p.nodes,
     }
 }
 
 // A refused listing leaves its buffer all zeros.
-pub fn refuse_zeroed(out: &mut [u8], w: Refusal) -> Position
-    ensures { filled_at result out.new ≡ listed_of (no w) out.old }
+pub fn refuse_zeroed(out: &mut [u8], w: Refusal) -> Result<usize, Refusal>
+    ensures { filled_at result out.new ≡ listed_of (Err w) out.old }
 {
     clear(out);
-    Position::No(w)
+    Err(w)
 }
 
-fn list_volume(image: &[u8], v: Volume, nodes: u64, out: &mut [u8]) -> Progress
+fn list_volume(image: &[u8], v: Volume, nodes: u64, out: &mut [u8]) -> Counted<usize>
     ensures { called_by result out.new ≡ listed_by (listed_on image.now v (length out.old) nodes) out.old }
 {
     let p = put_listing(out, image, v, nodes);
-    let at = p.at;
+    let at = p.answer;
     match at {
-        Position::At(_) => p,
-        Position::No(w) => Progress {
-            at: refuse_zeroed(out, w),
+        Ok(_) => p,
+        Err(w) => Counted {
+            answer: refuse_zeroed(out, w),
             nodes: p.nodes,
         },
     }
 }
 
-pub fn list_text(image: &[u8], which: Which, out: &mut [u8]) -> Progress
+pub fn list_text(image: &[u8], which: Which, out: &mut [u8]) -> Counted<usize>
     ensures { called_by result out.new ≡ listed_by (list_counted image.now which (length out.old)) out.old }
 {
     let opened = open_at(image, which);
-    let volume = opened.volume;
+    let volume = opened.answer;
     match volume {
-        VolumeOpening::Got(v) => list_volume(image, v, opened.nodes, out),
-        VolumeOpening::No(w) => Progress {
-            at: refuse_zeroed(out, w),
+        Ok(v) => list_volume(image, v, opened.nodes, out),
+        Err(w) => Counted {
+            answer: refuse_zeroed(out, w),
             nodes: opened.nodes,
         },
     }

@@ -4,11 +4,11 @@ use mathlib.Core.Path.{◌≡◌, refl, ap, ◌∙◌}
 use mathlib.Core.Bool.{Bool, true, false, ◌||◌}
 use mathlib.Core.Logic.{◌⊎◌, inl, inr}
 use mathlib.Core.List.{List, [], ◌∷◌}
-use mathlib.Core.Option.{some}
+use Rattle.std.specs.Prelude.{Some}
 use native.Mathlib.Omega.{arith}
 use borrow.Author.Tests.{eq-eqb, ne_eqb}
 use lib.Dec.{eqb}
-use Rattle.error.specs.Answer.{Answer, got, no}
+use Rattle.error.specs.Answer.{Answer, Ok, Err}
 use Rattle.error.proofs.Laws.{got_is, bound}
 use Rattle.byte_fields.specs.Number.{number_at}
 use Rattle.byte_fields.specs.Part.{part_of}
@@ -32,38 +32,38 @@ pub record OwnForm (image : List ℕ) (v : Volume) (e : Entry) : Type 0 where
   pub plain : (v.sb.incompat % 2 ≡ 0) → (v.sb.incompat / 8 % 2 ≡ 0) → PlainKey (key_of v.reader image e.place) e.name
 
 -- a list that was read: its first element, and the rest
-read_first : {A : Type 0} (f : Place → Answer A) (p : Place) (s : ℕ) (r : Run) (xs : List A) → (list_of f (more p s r)).answer ≡ got xs
-    → (y : A) × (ys : List A) × (f p ≡ got y) × ((list_of f r).answer ≡ got ys) × (y ∷ ys ≡ xs)
+read_first : {A : Type 0} (f : Place → Answer A) (p : Place) (s : ℕ) (r : Run) (xs : List A) → (list_of f (more p s r)).answer ≡ Ok xs
+    → (y : A) × (ys : List A) × (f p ≡ Ok y) × ((list_of f r).answer ≡ Ok ys) × (y ∷ ys ≡ xs)
 unfolding list_of
 read_first {A} f p s r xs e = of (f p) (list_of f r).answer refl refl e
   where
-    of : (a : Answer A) (b : Answer (List A)) → f p ≡ a → (list_of f r).answer ≡ b → (from s a λ y. from (list_of f r).nodes b λ ys. after (list_of f r).nodes (got (y ∷ ys))).answer ≡ got xs
-        → (y : A) × (ys : List A) × (f p ≡ got y) × ((list_of f r).answer ≡ got ys) × (y ∷ ys ≡ xs)
-    of (got y) (got ys) t u g = (y, ys, t, u, got_is _ xs g)
-    of (got y) (no w) t u g = absurd (let z : ◌≡◌ {A = ℕ} 0 1 = cc in omega arith)
-    of (no w) b t u g = absurd (let z : ◌≡◌ {A = ℕ} 0 1 = cc in omega arith)
+    of : (a : Answer A) (b : Answer (List A)) → f p ≡ a → (list_of f r).answer ≡ b → (from s a λ y. from (list_of f r).nodes b λ ys. after (list_of f r).nodes (Ok (y ∷ ys))).answer ≡ Ok xs
+        → (y : A) × (ys : List A) × (f p ≡ Ok y) × ((list_of f r).answer ≡ Ok ys) × (y ∷ ys ≡ xs)
+    of (Ok y) (Ok ys) t u g = (y, ys, t, u, got_is _ xs g)
+    of (Ok y) (Err w) t u g = absurd (let z : ◌≡◌ {A = ℕ} 0 1 = cc in omega arith)
+    of (Err w) b t u g = absurd (let z : ◌≡◌ {A = ℕ} 0 1 = cc in omega arith)
 
-nothing_at : {A : Type 0} (k : ℕ) (x : A) → element_at k [] ≡ some x → ⊥
+nothing_at : {A : Type 0} (k : ℕ) (x : A) → element_at k [] ≡ Some x → ⊥
 unfolding element_at
 nothing_at k x h = let z : ◌≡◌ {A = ℕ} 0 1 = cc in omega arith
 
 -- an element of a list was read from a record
-element_read : {A : Type 0} (f : Place → Answer A) (r : Run) (xs : List A) → (list_of f r).answer ≡ got xs → (k : ℕ) (x : A) → element_at k xs ≡ some x → (p : Place) × (f p ≡ got x)
+element_read : {A : Type 0} (f : Place → Answer A) (r : Run) (xs : List A) → (list_of f r).answer ≡ Ok xs → (k : ℕ) (x : A) → element_at k xs ≡ Some x → (p : Place) × (f p ≡ Ok x)
 unfolding list_of element_at
 element_read f (end s) xs e k x h = absurd (nothing_at k x (rw (← got_is [] xs e) at h))
 element_read f (refused w s) xs e k x h = absurd (let z : ◌≡◌ {A = ℕ} 0 1 = cc in omega arith)
 element_read f (more p s r) xs e zero x h =
     let a = read_first f p s r xs e in
-    let g : element_at zero (a.0 ∷ a.1) ≡ some x = rw (← a.4) at h in
+    let g : element_at zero (a.0 ∷ a.1) ≡ Some x = rw (← a.4) at h in
     let q : a.0 ≡ x = cc in
-    (p, a.2 ∙ ap got q)
+    (p, a.2 ∙ ap Ok q)
 element_read f (more p s r) xs e (suc k) x h =
     let a = read_first f p s r xs e in
-    let g : element_at (suc k) (a.0 ∷ a.1) ≡ some x = rw (← a.4) at h in
+    let g : element_at (suc k) (a.0 ∷ a.1) ≡ Some x = rw (← a.4) at h in
     element_read f r a.1 a.3 k x g
 
 -- an entry's name is that of its key
-entry_name_lem : (hashed : Bool) (r : Reader) (image : List ℕ) (p : Place) (e : Entry) → entry_at hashed r image p ≡ got e → name_in hashed (key_of r image e.place) ≡ got e.name
+entry_name_lem : (hashed : Bool) (r : Reader) (image : List ℕ) (p : Place) (e : Entry) → entry_at hashed r image p ≡ Ok e → name_in hashed (key_of r image e.place) ≡ Ok e.name
 unfolding entry_at entry_of entry_value key_of
 entry_name_lem hashed r image p e h =
     let a = bound (name_in hashed (part_of (block_of r image p.block) (key_span p))) _ e h in
@@ -74,7 +74,7 @@ entry_name_lem hashed r image p e h =
     rw (← q) a.1.0
 
 module _ (image : List ℕ) (v : Volume) where
-  own_form : (e : Entry) → name_in (hashed_keys v) (key_of v.reader image e.place) ≡ got e.name → OwnForm image v e
+  own_form : (e : Entry) → name_in (hashed_keys v) (key_of v.reader image e.place) ≡ Ok e.name → OwnForm image v e
   unfolding hashed_keys rule_of name_in
   own_form e h = record {
     hashed = λ b. (hashed_means _ _).0 (rw (set b) at h);
@@ -89,7 +89,7 @@ module _ (image : List ℕ) (v : Volume) where
       set (inl a) = rw (eq-eqb (v.sb.incompat % 2) 1 a)
       set (inr c) = rw (eq-eqb (v.sb.incompat / 8 % 2) 1 c) (or_true (eqb (v.sb.incompat % 2) 1))
 
-  pub entries_formed : (id s : ℕ) (es : List Entry) → (entries_of image v id s).answer ≡ got es → (k : ℕ) (e : Entry) → element_at k es ≡ some e → OwnForm image v e
+  pub entries_formed : (id s : ℕ) (es : List Entry) → (entries_of image v id s).answer ≡ Ok es → (k : ℕ) (e : Entry) → element_at k es ≡ Some e → OwnForm image v e
   unfolding entries_of
   entries_formed id s es h k e g =
       let r = element_read (entry_at (hashed_keys v) v.reader image) (scan_of image (search_of v id 9) s) es h k e g in

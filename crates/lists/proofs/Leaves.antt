@@ -22,7 +22,9 @@ use Rattle.records.specs.Extent.{extent_of, extent_at}
 use Rattle.records.specs.declared.directory.Entry.{Entry}
 use Rattle.records.specs.declared.attribute.Attribute.{Attribute}
 use Rattle.records.specs.declared.extent.Extent.{Extent}
-use Rattle.lists.specs.Seen.{Seen, over, refusal, seen_then, seen_in}
+use Rattle.lists.specs.declared.seen.Seen.{Seen}
+use Rattle.lists.specs.declared.seen.Seen.TheVariants.{Over, Refused}
+use Rattle.lists.specs.Seen.{seen_then, seen_in}
 use borrow.Author.Rules.{rules}
 
 module _ {A : Type 0} (whole : Place → Answer A) (f : List ℕ → Place → Answer A) (b : List ℕ) (k : Keys) (m : Node) (i : ℕ) (same : (p : Place) → whole p ≡ f (block_of k.reader b p.block) p) where
@@ -49,10 +51,10 @@ module _ (b : List ℕ) (k : Keys) (m : Node) (i : ℕ) (x : Reached) (s : List 
   extent_leaf z h = read_leaf (extent_at k.reader b) extent_of b k m i (λ p. refl) x s z e t h
 
 module _ {A : Type 0} (g : Place → Answer A) (b : List ℕ) (k : Keys) (i : ℕ) (x : Reached) where
-  pub at_end : x ≡ reached.End → over ≡ seen_in g (in_reached b k x i)
+  pub at_end : x ≡ reached.End → Over ≡ seen_in g (in_reached b k x i)
   at_end e = rw e
 
-  pub at_no : (w : Refusal) → x ≡ reached.No w → refusal w ≡ seen_in g (in_reached b k x i)
+  pub at_no : (w : Refusal) → x ≡ reached.No w → Refused w ≡ seen_in g (in_reached b k x i)
   at_no w e = rw e
 
 pub ruleset leaves = (rules, entry_leaf, attribute_leaf, extent_leaf, at_end, at_no)

@@ -2,10 +2,11 @@
 use Prim.Native.Nat.{ℕ, ◌-◌, ◌≤◌}
 use mathlib.Core.Path.{◌≡◌, refl, sym, ap, ◌∙◌}
 use mathlib.Core.List.{List}
-use Rattle.error.specs.Answer.{no}
+use Rattle.error.specs.Answer.{Err, Answer}
 use Rattle.error.specs.declared.Refusal.{Refusal}
 use Rattle.error.specs.declared.Refusal.TheVariants.{NotFound}
-use Rattle.lookup.specs.Counted.{Counted, after, onto}
+use Rattle.lookup.specs.declared.counted.Counted.{Counted}
+use Rattle.lookup.specs.Counted.{after, onto}
 use Rattle.node.specs.Node.{leaf_bit}
 use Rattle.btree.specs.Scan.{Run, more, end, refused, Tail, scan_of, nth}
 use Rattle.btree.specs.Inner.{leaf_from, in_node, child, kinded}
@@ -20,8 +21,7 @@ use Rattle.cursor.specs.declared.steps.Step.{Step}
 use Rattle.cursor.specs.declared.way.Way.{Way}
 use Rattle.cursor.proofs.Through.{run_at_lem, run_end, run_no}
 use Rattle.volume.specs.declared.Volume.{Volume}
-use Rattle.inode_record.specs.Inode.{inode_told, inode_at}
-use Rattle.inode_record.specs.declared.inode.InodeRead.{InodeRead}
+use Rattle.inode_record.specs.Inode.{inode_at}
 use Rattle.inode_record.specs.declared.inode.Inode.{Inode}
 use Rattle.records.proofs.Laws as record-laws
 use Rattle.lists.specs.Lists.{search_of, inode_met, inode_of}
@@ -44,24 +44,24 @@ module _ (b : List ℕ) (v : Volume) (id s : ℕ) (q : Search) (e : q ≡ search
         let k : scan_of b (search_of v id 3) s ≡ r = rw e at (sym g.run ∙ h) in
         rw k
 
-    pub begun_at : (y : Place) (a : ℕ) (w : InodeRead) → x ≡ At y a → inode_told w ≡ inode_at v.reader b y id → after t.nodes (inode_told w) ≡ inode_of b v id s
+    pub begun_at : (y : Place) (a : ℕ) (w : Answer Inode) → x ≡ At y a → w ≡ inode_at v.reader b y id → after t.nodes w ≡ inode_of b v id s
     unfolding nth
     begun_at y a w h k = ap (after t.nodes) k ∙ found _ (run_at_lem b q t t.from x p y a h)
 
-    pub begun_passed : x ≡ Passed → after t.nodes (no NotFound) ≡ inode_of b v id s
+    pub begun_passed : x ≡ Passed → after t.nodes (Err NotFound) ≡ inode_of b v id s
     begun_passed h = absurd (g.there (sym p ∙ h))
 
-    pub begun_end : x ≡ End → after t.nodes (no NotFound) ≡ inode_of b v id s
+    pub begun_end : x ≡ End → after t.nodes (Err NotFound) ≡ inode_of b v id s
     unfolding nth
     begun_end h = found _ (run_end b q t t.from x p h)
 
-    pub begun_no : (w : Refusal) → x ≡ No w → after t.nodes (no w) ≡ inode_of b v id s
+    pub begun_no : (w : Refusal) → x ≡ No w → after t.nodes (Err w) ≡ inode_of b v id s
     unfolding nth
     begun_no w h = found _ (run_no b q t t.from x p w h)
 
   -- the record at which the way ends
-  pub way_at : (w : Way) (x : InLeaf) (y : Place) (a : ℕ) (z : InodeRead) → Leads b (search_of v id 3) s w → q.root.level ≤ 32 → leaf_bit w.node.flags ≡ 1 →
-      x ≡ in_node b q w.node w.from → x ≡ At y a → inode_told z ≡ inode_at v.reader b y id → after w.nodes (inode_told z) ≡ inode_of b v id s
+  pub way_at : (w : Way) (x : InLeaf) (y : Place) (a : ℕ) (z : Answer Inode) → Leads b (search_of v id 3) s w → q.root.level ≤ 32 → leaf_bit w.node.flags ≡ 1 →
+      x ≡ in_node b q w.node w.from → x ≡ At y a → z ≡ inode_at v.reader b y id → after w.nodes z ≡ inode_of b v id s
   unfolding inode_of nth
   way_at w x y a z l h f p g k =
       let o = (leads_to w l).own h in

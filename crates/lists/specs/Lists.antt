@@ -1,11 +1,11 @@
 -- The lists of a volume: its inodes, directory entries, attributes and extents. Document 01, fs.rs: "Lists come an element a call, by place, the
 -- whole list read first; past its end is "none""; fs.rs, `records`, `inode`, `read_dir`, `xattrs`, `extents`.
 use Rattle.std.specs.Prelude.{ℕ, zero, suc, List, [], ◌∷◌}
-use Rattle.std.proofs.Math.Option.{Option, some}
-use Rattle.std.proofs.Math.Option as option
-use Rattle.error.specs.Answer.{Answer, got, no, if_eq}
+use Rattle.std.specs.Prelude.{Option, None, Some}
+use Rattle.error.specs.Answer.{Answer, Ok, Err, if_eq}
 use Rattle.error.specs.declared.Refusal.TheVariants.{Unsupported, NotFound}
-use Rattle.lookup.specs.Counted.{Counted, after, from, onto}
+use Rattle.lookup.specs.declared.counted.Counted.{Counted}
+use Rattle.lookup.specs.Counted.{after, from, onto}
 use Rattle.lookup.specs.declared.map.Resolve.TheVariants.{Mapped}
 use Rattle.btree.specs.Scan.{Run, more, end, refused, scan_of, nth}
 use Rattle.btree.specs.declared.entries.Search.{Search}
@@ -27,9 +27,9 @@ search_of v id kind = record { keys = record { reader = v.reader; info = v.info;
 
 -- all records of a run, each read by f: record after record, and the first fault counts
 unfoldable pub list_of : {A : Type 0} → (Place → Answer A) → Run → Counted (List A)
-list_of f (more p s r) = from s (f p) λ x. onto (list_of f r) λ xs t. after t (got (x ∷ xs))
-list_of f (end s) = after s (got [])
-list_of f (refused e s) = after s (no e)
+list_of f (more p s r) = from s (f p) λ x. onto (list_of f r) λ xs t. after t (Ok (x ∷ xs))
+list_of f (end s) = after s (Ok [])
+list_of f (refused e s) = after s (Err e)
 
 -- APFS_TYPE_DIR_REC is 9, APFS_TYPE_XATTR 4, APFS_TYPE_FILE_EXTENT 8, APFS_TYPE_INODE 3; s nodes have been gone through before
 unfoldable pub entries_of : List ℕ → Volume → ℕ → ℕ → Counted (List Entry)
@@ -42,8 +42,8 @@ unfoldable pub extents_of : List ℕ → Volume → ℕ → ℕ → Counted (Lis
 extents_of b v id s = list_of (extent_at v.reader b) (scan_of b (search_of v id 8) s)
 
 abbrev pub inode_met : List ℕ → Volume → ℕ → Option Place → Answer Inode
-inode_met b v id (some p) = inode_at v.reader b p id
-inode_met b v id option.none = no NotFound
+inode_met b v id (Some p) = inode_at v.reader b p id
+inode_met b v id None = Err NotFound
 
 -- the first inode record of the id, 4 where there is none
 unfoldable pub inode_of : List ℕ → Volume → ℕ → ℕ → Counted Inode
@@ -58,14 +58,14 @@ root_of b v s = inode_of b v root_id s
 
 -- the element at a place, or none past the list's end
 unfoldable pub element_at : {A : Type 0} → ℕ → List A → Option A
-element_at k [] = option.none
-element_at zero (x ∷ xs) = some x
+element_at k [] = None
+element_at zero (x ∷ xs) = Some x
 element_at (suc k) (x ∷ xs) = element_at k xs
 
 -- an element by its place, the whole list read first
 abbrev pub placed : {A : Type 0} → ℕ → Counted (List A) → Counted (Option A)
-placed k c = onto c λ xs t. after t (got (element_at k xs))
+placed k c = onto c λ xs t. after t (Ok (element_at k xs))
 
 -- document 01: "`file_extents` gives them as stored"; of a compressed file it is 3 (fs.rs, `file_extents`)
 unfoldable pub file_extents : List ℕ → Volume → Inode → ℕ → ℕ → Counted (Option Extent)
-file_extents b v i place s = if_eq (compressed i) 1 (after s (no Unsupported)) (placed place (extents_of b v i.ids.private_id s))
+file_extents b v i place s = if_eq (compressed i) 1 (after s (Err Unsupported)) (placed place (extents_of b v i.ids.private_id s))

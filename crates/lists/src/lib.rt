@@ -9,10 +9,10 @@ mod seen;
 mod tree;
 mod ways;
 
-pub use attributes::{AttributeAt, AttributeFound, attribute_at, attribute_from};
-pub use entries::{EntryAt, EntryFound, entry_at, entry_from};
-pub use extents::{ExtentAt, ExtentFound, extent_at, file_extents};
-pub use inodes::{InodeFound, ROOT, inode, root};
-pub use seen::{AttributeIn, EntryIn, ExtentIn, attribute_in, entry_in, extent_in};
+pub use attributes::{attribute_at, attribute_from};
+pub use entries::{entry_at, entry_from};
+pub use extents::{extent_at, file_extents};
+pub use inodes::{ROOT, inode, root};
+pub use seen::{Seen, attribute_in, entry_in, extent_in};
 pub use tree::{fewer, search};
 pub use ways::{inode_on, inode_way, list_on};

@@ -3,15 +3,14 @@ ghost use Rattle.std.specs.Prelude.{◌≡◌};
 ghost use Rattle.btree.specs.Scan.{scan_of};
 ghost use Rattle.cursor.specs.Left.{Begins};
 ghost use Rattle.cursor.specs.Way.{Leads};
-ghost use Rattle.lists.specs.Told.{inode_found};
 ghost use Rattle.lists.specs.Lists.{search_of, inode_of};
 
-use crate::inodes::InodeFound;
 use crate::tree::search;
 use btree::{InLeaf, next_in};
 use cursor::{Step, Way, begin, in_leaf, resume, way_down};
 use error::Refusal;
-use inode_record::{InodeRead, inode_at};
+use inode_record::{Inode, inode_at};
+use lookup::Counted;
 use volume::Volume;
 
 pub fn inode_way(image: &[u8], v: Volume, id: u64, nodes: u64) -> Way
@@ -21,38 +20,38 @@ pub fn inode_way(image: &[u8], v: Volume, id: u64, nodes: u64) -> Way
 }
 
 // The first inode record of an id, where its search begins.
-fn inode_begun(image: &[u8], v: Volume, id: u64, w: Way, nodes: u64) -> InodeFound
+fn inode_begun(image: &[u8], v: Volume, id: u64, w: Way, nodes: u64) -> Counted<Inode>
     requires { Leads image.now (search_of v id 3) nodes w }
-    ensures { inode_found result ≡ inode_of image.now v id nodes }
+    ensures { result ≡ inode_of image.now v id nodes }
 {
     let reader = v.reader;
     let q = search(v, id, 3);
     let s = begin(image, q, w, nodes);
     let reached = s.reached;
     match in_leaf(image, q.keys, reached, s.from) {
-        InLeaf::At(p, _) => InodeFound {
-            inode: inode_at(reader, image, p, id),
+        InLeaf::At(p, _) => Counted {
+            answer: inode_at(reader, image, p, id),
             nodes: s.nodes,
         },
-        InLeaf::Passed => InodeFound {
-            inode: InodeRead::No(Refusal::NotFound),
+        InLeaf::Passed => Counted {
+            answer: Err(Refusal::NotFound),
             nodes: s.nodes,
         },
-        InLeaf::End => InodeFound {
-            inode: InodeRead::No(Refusal::NotFound),
+        InLeaf::End => Counted {
+            answer: Err(Refusal::NotFound),
             nodes: s.nodes,
         },
-        InLeaf::No(e) => InodeFound {
-            inode: InodeRead::No(e),
+        InLeaf::No(e) => Counted {
+            answer: Err(e),
             nodes: s.nodes,
         },
     }
 }
 
 // The first inode record of an id: mostly it stands where the way leads to.
-pub fn inode_on(image: &[u8], v: Volume, id: u64, w: Way, nodes: u64) -> InodeFound
+pub fn inode_on(image: &[u8], v: Volume, id: u64, w: Way, nodes: u64) -> Counted<Inode>
     requires { Leads image.now (search_of v id 3) nodes w }
-    ensures { inode_found result ≡ inode_of image.now v id nodes }
+    ensures { result ≡ inode_of image.now v id nodes }
 {
     let reader = v.reader;
     let q = search(v, id, 3);
@@ -61,8 +60,8 @@ pub fn inode_on(image: &[u8], v: Volume, id: u64, w: Way, nodes: u64) -> InodeFo
     if root.level <= 32 {
         if node.flags / 2 % 2 == 1 {
             if let InLeaf::At(p, _) = next_in(image, q.keys, node, w.from) {
-                return InodeFound {
-                    inode: inode_at(reader, image, p, id),
+                return Counted {
+                    answer: inode_at(reader, image, p, id),
                     nodes: w.nodes,
                 };
             }

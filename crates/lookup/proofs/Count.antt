@@ -2,11 +2,11 @@
 use Prim.Native.Nat.{ℕ, zero, suc, ◌+◌, ◌-◌}
 use mathlib.Core.Path.{◌≡◌, refl, sym, ap, subst⁻¹, ◌∙◌}
 use mathlib.Core.List.{List, [], ◌∷◌, ◌++◌, append-nil}
-use mathlib.Core.Option.{Option}
+use Rattle.std.specs.Prelude.{Option}
 use native.Mathlib.Numerals.{sub-one}
 use native.Mathlib.Decide.{ℕ_discrete}
 use native.Mathlib.Omega.{arith}
-use Rattle.error.specs.Answer.{Answer, got, no}
+use Rattle.error.specs.Answer.{Answer, Ok, Err}
 use Rattle.error.proofs.Laws.{same, other}
 use Rattle.obj.specs.declared.reader.Reader.{Reader}
 use Rattle.node.specs.declared.layout.Node.{Node}
@@ -37,11 +37,11 @@ module _ (r : Reader) (b : List ℕ) (info : Info) (t : Target) where
   unfolding look_node
   rest_none n m h = of (step_at r b info t m) h
     where
-      of : (x : Answer Step) → ((c : Node) → x ≡ got (into c) → ⊥) → (on x (walked (look_child r b info t n))).path ≡ []
-      of (got nothing) g = refl
-      of (got (found y)) g = refl
-      of (got (into c)) g = absurd (g c refl)
-      of (no e) g = refl
+      of : (x : Answer Step) → ((c : Node) → x ≡ Ok (into c) → ⊥) → (on x (walked (look_child r b info t n))).path ≡ []
+      of (Ok nothing) g = refl
+      of (Ok (found y)) g = refl
+      of (Ok (into c)) g = absurd (g c refl)
+      of (Err e) g = refl
 
   under_off : (n : ℕ) (c : Node) → (c.level + 1 ≡ n → ⊥) → under n c ≡ []
   unfolding look_child
@@ -71,10 +71,10 @@ module _ (r : Reader) (b : List ℕ) (info : Info) (t : Target) where
           (Goes.off e (λ x. d (x ∙ h)))
 
       of : (x : Answer Step) → step_at r b info t m ≡ x → Goes r b info t m (m.block ∷ rest n m)
-      of (got nothing) e = none (λ c g. let z : ◌≡◌ {A = ℕ} 0 1 = cc in omega arith)
-      of (got (found y)) e = none (λ c g. let z : ◌≡◌ {A = ℕ} 0 1 = cc in omega arith)
-      of (got (into c)) e = some c e (ℕ_discrete (c.level + 1) n)
-      of (no w) e = none (λ c g. let z : ◌≡◌ {A = ℕ} 0 1 = cc in omega arith)
+      of (Ok nothing) e = none (λ c g. let z : ◌≡◌ {A = ℕ} 0 1 = cc in omega arith)
+      of (Ok (found y)) e = none (λ c g. let z : ◌≡◌ {A = ℕ} 0 1 = cc in omega arith)
+      of (Ok (into c)) e = some c e (ℕ_discrete (c.level + 1) n)
+      of (Err w) e = none (λ c g. let z : ◌≡◌ {A = ℕ} 0 1 = cc in omega arith)
 
   goes_there : (n : ℕ) (m : Node) → m.level ≡ n → Goes r b info t m (m.block ∷ rest n m)
   goes_there zero m h = goes_on_lem zero m h (λ c e. absurd (omega arith))
@@ -106,8 +106,8 @@ unfolding and_then
 told_path {A} t g = of t.answer
   where
     of : (a : Answer A) → (t.path ++ (on a (λ x. at_once (g x))).path) ≡ t.path
-    of (got x) = append-nil t.path
-    of (no e) = append-nil t.path
+    of (Ok x) = append-nil t.path
+    of (Err e) = append-nil t.path
 
 pub resolves_by : (r : Reader) (b : List ℕ) (x : Resolve) (child : ℕ) → ResolvesBy r b x child
 unfolding resolve block_in look_in

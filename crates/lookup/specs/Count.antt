@@ -1,7 +1,7 @@
 -- How many nodes a lookup goes through. Document 01, btree.rs: "Its answer counts the nodes it went through"; the buyer's note: "A node count must be the number on the defined path".
 -- The path is said by rules, which count nothing; what is stated here is proved in proofs/Count.antt.
 use Rattle.std.specs.Prelude.{ℕ, ◌+◌, ◌-◌, ◌^◌, min, ◌≡◌, List, [], ◌∷◌, length}
-use Rattle.error.specs.Answer.{got}
+use Rattle.error.specs.Answer.{Ok}
 use Rattle.obj.specs.declared.reader.Reader.{Reader}
 use Rattle.node.specs.declared.layout.Node.{Node}
 use Rattle.node.specs.declared.layout.Info.{Info}
@@ -13,7 +13,7 @@ use Rattle.lookup.specs.Map.{target_for, resolve}
 
 -- an index node leads to the child of the last entry that is not above the target, its block having passed as a node
 abbrev pub LeadsTo : Reader → List ℕ → Info → Target → Node → Node → Type 0
-LeadsTo r b info t m c = step_at r b info t m ≡ got (into c)
+LeadsTo r b info t m c = step_at r b info t m ≡ Ok (into c)
 
 -- the blocks that a lookup goes through from a node on
 pub data Goes (r : Reader) (b : List ℕ) (info : Info) (t : Target) : Node → List ℕ → Type 0 where

@@ -2,7 +2,7 @@
 use Rattle.std.specs.Prelude.{ℕ, ◌<◌, ◌≡◌, Bool, true, false, List, ◌⊎◌}
 use Rattle.std.proofs.Common.{inl, inr, ⊎_elim}
 use Rattle.std.proofs.Math.Decide.{dec_lt, ℕ_discrete}
-use Rattle.error.specs.Answer.{Answer, got, ◌>>=◌}
+use Rattle.error.specs.Answer.{Answer, Ok, ◌>>=◌}
 use Rattle.byte_fields.specs.Number.{number_at}
 use Rattle.byte_fields.specs.Part.{part_of}
 use Rattle.node.specs.Entry.{key_value_at}
@@ -12,7 +12,7 @@ use Rattle.lookup.specs.declared.descent.Target.{Target}
 
 -- the two numbers that a key begins with
 unfoldable pub key_in : List ℕ → Answer (ℕ × ℕ)
-key_in key = number_at 8 key 0 >>= λ oid. number_at 8 key 8 >>= λ xid. got (oid, xid)
+key_in key = number_at 8 key 0 >>= λ oid. number_at 8 key 8 >>= λ xid. Ok (oid, xid)
 
 -- those of the i-th entry's key
 unfoldable pub key_at : List ℕ → Node → Info → ℕ → Answer (ℕ × ℕ)

@@ -1,9 +1,10 @@
 -- Answers with the nodes that were gone through to them. Document 01, btree.rs: "Its answer counts the nodes it went through".
 -- Nothing is counted here: a path is a list of blocks, and a count is taken of it.
 use Rattle.std.specs.Prelude.{ℕ, List, [], ◌∷◌, ◌++◌}
-use Rattle.error.specs.Answer.{Answer, got, no}
+use Rattle.error.specs.Answer.{Answer, Ok, Err}
 use Rattle.arith.specs.Checked.{ticked}
-use Rattle.lookup.specs.Counted.{Counted, after}
+use Rattle.lookup.specs.declared.counted.Counted.{Counted}
+use Rattle.lookup.specs.Counted.{after}
 
 -- an answer, and the blocks of the nodes that were gone through to it, in order
 pub record Through (A : Type 0) : Type 0 where
@@ -20,8 +21,8 @@ by p t = record { path = p ∷ t.path; answer = t.answer }
 
 -- f of what an answer gives
 abbrev pub on : {A B : Type 0} → Answer A → (A → Through B) → Through B
-on (got a) f = f a
-on (no e) f = at_once (no e)
+on (Ok a) f = f a
+on (Err e) f = at_once (Err e)
 
 -- t, then f of what it gives
 unfoldable pub and_then : {A B : Type 0} → Through A → (A → Through B) → Through B

@@ -3,8 +3,8 @@
 use Prim.Native.Nat.{ℕ}
 use mathlib.Core.Path.{◌≡◌, refl, ap, ◌∙◌}
 use mathlib.Core.List.{List}
-use mathlib.Core.Option.{Option}
-use Rattle.error.specs.Answer.{Answer, got, no, ◌>>=◌}
+use Rattle.std.specs.Prelude.{Option}
+use Rattle.error.specs.Answer.{Answer, Ok, Err, ◌>>=◌}
 use Rattle.lookup.specs.Counted.{after, from, onto}
 use Rattle.lookup.specs.Map.{map_lookup, block_for, resolve_at}
 use Rattle.lookup.specs.declared.map.MapValue.{MapValue}
@@ -19,8 +19,8 @@ use Rattle.lookup_walk.proofs.QuickAndSlow.{map_is_slow, block_is_slow}
 -- the superblock of a container's volume
 module _ (image : List ℕ) (c : Container) (w : WellFormed c.reader image c.map.info c.map.root) where
   read_of : (a : Answer (Option MapValue)) (n : ℕ) → (from n a (λ v. after n (volume_of c.reader image v))).answer ≡ (a >>= volume_of c.reader image)
-  read_of (got v) n = refl
-  read_of (no e) n = refl
+  read_of (Ok v) n = refl
+  read_of (Err e) n = refl
 
   mapped : (oid s : ℕ) → (mapped_volume image c oid s).answer ≡ (map_slow c.reader image c.map oid >>= volume_of c.reader image)
   unfolding mapped_volume
@@ -34,8 +34,8 @@ module _ (image : List ℕ) (c : Container) (w : WellFormed c.reader image c.map
   volume_is_slow index s = of (volume_at index (volumes_of image c.sb))
     where
       of : (a : Answer ℕ) → (from s a (λ oid. mapped_volume image c oid s)).answer ≡ (a >>= λ oid. map_slow c.reader image c.map oid >>= volume_of c.reader image)
-      of (got oid) = mapped oid s
-      of (no e) = refl
+      of (Ok oid) = mapped oid s
+      of (Err e) = refl
 
 -- the block of a node of a volume's tree
 pub node_is_slow : (image : List ℕ) (v : Volume) → WellFormed v.reader image v.map.info v.map.root → (oid s : ℕ) →

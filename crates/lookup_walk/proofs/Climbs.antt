@@ -2,7 +2,7 @@
 use Prim.Native.Nat.{ℕ}
 use mathlib.Core.Path.{◌≡◌, refl, sym, ap, ◌∙◌}
 use mathlib.Core.Bool.{true, false}
-use mathlib.Core.Option.{Option, some}
+use Rattle.std.specs.Prelude.{Option, Some}
 use mathlib.Core.List.{List, [], ◌∷◌, ◌++◌}
 use mathlib.Core.Logic.{inl, inr}
 use native.Mathlib.Omega.{arith}
@@ -73,7 +73,7 @@ module _ (t : Target) where
   pub last_append : (o : Option Place) (xs ys : List Item) → last_in t o (xs ++ ys) ≡ last_in t (last_in t o xs) ys
   unfolding last_in
   last_append o [] ys = refl
-  last_append o (x ∷ xs) ys = last_append (pick (is_yes (above? x.key (target_key t))) o (some x.hit)) xs ys
+  last_append o (x ∷ xs) ys = last_append (pick (is_yes (above? x.key (target_key t))) o (Some x.hit)) xs ys
 
   -- entries above the target change nothing
   pub last_over : (o : Option Place) (xs : List Item) → Over (target_key t) xs → last_in t o xs ≡ o
@@ -82,7 +82,7 @@ module _ (t : Target) where
   last_over o (x ∷ xs) h = rw (key_above_lem x.key h.0) (last_over o xs h.1)
 
   -- one that is not above it takes the place of what was kept
-  pub last_taken : (o : Option Place) (x : Item) (xs : List Item) → NotAbove x.key (target_key t) → last_in t o (x ∷ xs) ≡ last_in t (some x.hit) xs
+  pub last_taken : (o : Option Place) (x : Item) (xs : List Item) → NotAbove x.key (target_key t) → last_in t o (x ∷ xs) ≡ last_in t (Some x.hit) xs
   unfolding last_in
   last_taken o x xs h = rw (key_not x.key h)
 

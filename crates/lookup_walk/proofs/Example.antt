@@ -1,13 +1,13 @@
 -- The hypotheses can be met: a map of three small blocks, a root of level 1 over two leaves, whose last entry has no value.
 use Prim.Native.Nat.{ℕ, ◌<◌}
 use mathlib.Core.Path.{◌≡◌, refl, ap, ◌∙◌}
-use mathlib.Core.Option.{none, some}
+use Rattle.std.specs.Prelude.{None, Some}
 use mathlib.Core.List.{List, [], ◌∷◌, ◌++◌}
 use mathlib.Core.Logic.{inl, inr, ⊎_elim}
 use native.Mathlib.Omega.{arith}
 use lib.Dec.{lit<}
 use lib.ListN.{replicate}
-use Rattle.error.specs.Answer.{got, if_le, if_eq}
+use Rattle.error.specs.Answer.{Ok, if_le, if_eq}
 use Rattle.byte_fields.specs.Number.{little, number_at}
 use Rattle.byte_fields.specs.Part.{part_of, span_at}
 use Rattle.arith.specs.Checked.{product_of}
@@ -91,11 +91,11 @@ tree =
     (branch (9, 2) (leaf (item 9 2 3 64 144 ∷ ghost 11 1 3 80 ∷ [])) bare))
 
 -- the root is what its block holds
-pub root_read : node_at reader image 1 ≡ got root
+pub root_read : node_at reader image 1 ≡ Ok root
 unfolding image if_le if_eq little number_at part_of span_at product_of words_at words_of sum running s1 s2 checksum valid block_at block_of object_at header_at fields_at laid_out body_of node_of node_at
 root_read = refl
 
-tree_read : tree_at reader image info root ≡ got tree
+tree_read : tree_at reader image info root ≡ Ok tree
 unfolding image if_le if_eq little number_at part_of span_at product_of words_at words_of sum running s1 s2 checksum valid block_at block_of object_at header_at fields_at laid_out body_of node_of node_at fixed_at variable_at row_at with_value key_value_at place_of child_at key_in key_at item_at items_from child_node branches_from node_tree child_tree tree_at
 tree_read = refl
 
@@ -114,7 +114,7 @@ target = record { oid = 11; xid = 4 }
 below : (oid xid : ℕ) → oid < 11 → NotAbove (oid, xid) (target_key target)
 below oid xid h = ⊎_elim (λ k. omega arith) (λ k. omega (arith, k.0))
 
-pub ghost_found : walk_le reader image info target root ≡ got (some (ghost 11 1 3 80).hit)
+pub ghost_found : walk_le reader image info target root ≡ Ok (Some (ghost 11 1 3 80).hit)
 unfolding walk_le last_in
 ghost_found =
     let a = item 5 1 2 64 144 in
@@ -122,5 +122,5 @@ ghost_found =
     let c = item 9 2 3 64 144 in
     let d = ghost 11 1 3 80 in
     rw tree_read
-    (ap got (last_taken target none a (b ∷ c ∷ d ∷ []) (below 5 1 (lit< tt)) ∙ (last_taken target (some a.hit) b (c ∷ d ∷ []) (below 5 7 (lit< tt))
-    ∙ (last_taken target (some b.hit) c (d ∷ []) (below 9 2 (lit< tt)) ∙ last_taken target (some c.hit) d [] (⊎_elim (λ k. omega arith) (λ k. omega (arith, k.1)))))))
+    (ap Ok (last_taken target None a (b ∷ c ∷ d ∷ []) (below 5 1 (lit< tt)) ∙ (last_taken target (Some a.hit) b (c ∷ d ∷ []) (below 5 7 (lit< tt))
+    ∙ (last_taken target (Some b.hit) c (d ∷ []) (below 9 2 (lit< tt)) ∙ last_taken target (Some c.hit) d [] (⊎_elim (λ k. omega arith) (λ k. omega (arith, k.1)))))))

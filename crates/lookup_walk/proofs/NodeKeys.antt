@@ -5,7 +5,7 @@ use mathlib.Core.List.{List, [], ◌∷◌, ◌++◌}
 use mathlib.Core.Logic.{inl, inr}
 use native.Mathlib.Decide.{ℕ_discrete}
 use native.Mathlib.Omega.{arith}
-use Rattle.error.specs.Answer.{Answer, got, no, ◌>>=◌}
+use Rattle.error.specs.Answer.{Answer, Ok, Err, ◌>>=◌}
 use Rattle.error.proofs.Laws.{bound}
 use Rattle.node.specs.declared.layout.Node.{Node}
 use Rattle.node.specs.declared.layout.Info.{Info}
@@ -35,36 +35,36 @@ ClimbKeys (x ∷ xs) = OverKeys x xs × ClimbKeys xs
 module _ (b : List ℕ) (m : Node) (info : Info) where
   -- n keys from the i-th on
   unfoldable pub keys_from : ℕ → ℕ → Answer (List Key)
-  keys_from zero i = got []
-  keys_from (suc n) i = key_at b m info i >>= λ k. keys_from n (i + 1) >>= λ ks. got (k ∷ ks)
+  keys_from zero i = Ok []
+  keys_from (suc n) i = key_at b m info i >>= λ k. keys_from n (i + 1) >>= λ ks. Ok (k ∷ ks)
 
   record Split (n i : ℕ) (ks : List Key) : Type 0 where
     first : Key
     rest : List Key
     whole : first ∷ rest ≡ ks
-    head : key_at b m info i ≡ got first
-    tail : keys_from n (i + 1) ≡ got rest
+    head : key_at b m info i ≡ Ok first
+    tail : keys_from n (i + 1) ≡ Ok rest
 
-  split : (n i : ℕ) (ks : List Key) → keys_from (suc n) i ≡ got ks → Split n i ks
+  split : (n i : ℕ) (ks : List Key) → keys_from (suc n) i ≡ Ok ks → Split n i ks
   unfolding keys_from
   split n i ks e =
-      let x = bound (key_at b m info i) (λ k. keys_from n (i + 1) >>= λ zs. got (k ∷ zs)) ks e in
-      let y = bound (keys_from n (i + 1)) (λ zs. got (x.0 ∷ zs)) ks x.1.1 in
-      record { first = x.0; rest = y.0; whole = (let q : got (x.0 ∷ y.0) ≡ got ks = y.1.1 in cc); head = x.1.0; tail = y.1.0 }
+      let x = bound (key_at b m info i) (λ k. keys_from n (i + 1) >>= λ zs. Ok (k ∷ zs)) ks e in
+      let y = bound (keys_from n (i + 1)) (λ zs. Ok (x.0 ∷ zs)) ks x.1.1 in
+      record { first = x.0; rest = y.0; whole = (let q : ◌≡◌ {A = Answer _} (Ok (x.0 ∷ y.0)) (Ok ks) = y.1.1 in cc); head = x.1.0; tail = y.1.0 }
 
-  reads_at : (n i : ℕ) (ks : List Key) → keys_from n i ≡ got ks → (j : ℕ) → i ≤ j → j < i + n → (k : Key) × (key_at b m info j ≡ got k)
+  reads_at : (n i : ℕ) (ks : List Key) → keys_from n i ≡ Ok ks → (j : ℕ) → i ≤ j → j < i + n → (k : Key) × (key_at b m info j ≡ Ok k)
   reads_at zero i ks e j h l = absurd (omega arith)
   reads_at (suc n) i ks e j h l = of (ℕ_discrete i j) (reads_at n (i + 1))
     where
       s : Split n i ks
       s = split n i ks e
 
-      of : Dec (i ≡ j) → ((ls : List Key) → keys_from n (i + 1) ≡ got ls → (j : ℕ) → i + 1 ≤ j → j < i + 1 + n → (k : Key) × (key_at b m info j ≡ got k)) → (k : Key) × (key_at b m info j ≡ got k)
+      of : Dec (i ≡ j) → ((ls : List Key) → keys_from n (i + 1) ≡ Ok ls → (j : ℕ) → i + 1 ≤ j → j < i + 1 + n → (k : Key) × (key_at b m info j ≡ Ok k)) → (k : Key) × (key_at b m info j ≡ Ok k)
       of (Dec.yes q) g = (s.first, rw (← q) s.head)
       of (Dec.no q) g = g s.rest s.tail j (omega arith) (omega arith)
 
   -- a key of those that are all above k
-  over_at : (k : Key) (n i : ℕ) (ks : List Key) → keys_from n i ≡ got ks → OverKeys k ks → (j : ℕ) (q : Key) → i ≤ j → j < i + n → key_at b m info j ≡ got q → IsAbove q k
+  over_at : (k : Key) (n i : ℕ) (ks : List Key) → keys_from n i ≡ Ok ks → OverKeys k ks → (j : ℕ) (q : Key) → i ≤ j → j < i + n → key_at b m info j ≡ Ok q → IsAbove q k
   over_at k zero i ks e o j q h l p = absurd (omega arith)
   over_at k (suc n) i ks e o j q h l p = of (ℕ_discrete i j) (over_at k n (i + 1))
     where
@@ -74,14 +74,14 @@ module _ (b : List ℕ) (m : Node) (info : Info) where
       o' : OverKeys k (s.first ∷ s.rest)
       o' = subst⁻¹ (OverKeys k) s.whole o
 
-      of : Dec (i ≡ j) → ((ls : List Key) → keys_from n (i + 1) ≡ got ls → OverKeys k ls → (j : ℕ) (q : Key) → i + 1 ≤ j → j < i + 1 + n → key_at b m info j ≡ got q → IsAbove q k) → IsAbove q k
+      of : Dec (i ≡ j) → ((ls : List Key) → keys_from n (i + 1) ≡ Ok ls → OverKeys k ls → (j : ℕ) (q : Key) → i + 1 ≤ j → j < i + 1 + n → key_at b m info j ≡ Ok q → IsAbove q k) → IsAbove q k
       of (Dec.yes z) g =
-          let y : got s.first ≡ got q = sym s.head ∙ (rw (← z) at p) in
+          let y : ◌≡◌ {A = Answer _} (Ok s.first) (Ok q) = sym s.head ∙ (rw (← z) at p) in
           let w : s.first ≡ q = cc in
           rw (← w) o'.0
       of (Dec.no z) g = g s.rest s.tail o'.1 j q (omega arith) (omega arith) p
 
-  rises_at : (n i : ℕ) (ks : List Key) → keys_from n i ≡ got ks → ClimbKeys ks → (j l : ℕ) (p q : Key) → i ≤ j → j < l → l < i + n → key_at b m info j ≡ got p → key_at b m info l ≡ got q → IsAbove q p
+  rises_at : (n i : ℕ) (ks : List Key) → keys_from n i ≡ Ok ks → ClimbKeys ks → (j l : ℕ) (p q : Key) → i ≤ j → j < l → l < i + n → key_at b m info j ≡ Ok p → key_at b m info l ≡ Ok q → IsAbove q p
   rises_at zero i ks e o j l p q h d u x y = absurd (omega arith)
   rises_at (suc n) i ks e o j l p q h d u x y = of (ℕ_discrete i j) (rises_at n (i + 1))
     where
@@ -91,14 +91,14 @@ module _ (b : List ℕ) (m : Node) (info : Info) where
       o' : ClimbKeys (s.first ∷ s.rest)
       o' = subst⁻¹ ClimbKeys s.whole o
 
-      of : Dec (i ≡ j) → ((ls : List Key) → keys_from n (i + 1) ≡ got ls → ClimbKeys ls → (j l : ℕ) (p q : Key) → i + 1 ≤ j → j < l → l < i + 1 + n → key_at b m info j ≡ got p → key_at b m info l ≡ got q → IsAbove q p) → IsAbove q p
+      of : Dec (i ≡ j) → ((ls : List Key) → keys_from n (i + 1) ≡ Ok ls → ClimbKeys ls → (j l : ℕ) (p q : Key) → i + 1 ≤ j → j < l → l < i + 1 + n → key_at b m info j ≡ Ok p → key_at b m info l ≡ Ok q → IsAbove q p) → IsAbove q p
       of (Dec.yes z) g =
-          let v : got s.first ≡ got p = sym s.head ∙ (rw (← z) at x) in
+          let v : ◌≡◌ {A = Answer _} (Ok s.first) (Ok p) = sym s.head ∙ (rw (← z) at x) in
           let w : s.first ≡ p = cc in
           rw (← w) (over_at s.first n (i + 1) s.rest s.tail o'.0 l q (omega arith) (omega arith) y)
       of (Dec.no z) g = g s.rest s.tail o'.1 j l p q (omega arith) d (omega arith) x y
 
-  pub sorted_of : (ks : List Key) → keys_from m.nkeys 0 ≡ got ks → ClimbKeys ks → Sorted b m info
+  pub sorted_of : (ks : List Key) → keys_from m.nkeys 0 ≡ Ok ks → ClimbKeys ks → Sorted b m info
   sorted_of ks e o = record {
     reads = λ i h. reads_at m.nkeys 0 ks e i (omega arith) (omega arith);
     rises = λ i j p q h l x y. above_not p q (rises_at m.nkeys 0 ks e o i j p q (omega arith) h (omega arith) x y);

@@ -1,7 +1,7 @@
 -- The walk over all entries of a tree, leaf after leaf, and well-formed trees. Document 02, request 14.
 use Rattle.std.specs.Prelude.{ℕ, zero, suc, ◌+◌, ◌≡◌, List, [], ◌∷◌, ◌++◌}
-use Rattle.std.proofs.Math.Option.{Option, none, some}
-use Rattle.error.specs.Answer.{Answer, got, no, ◌>>=◌, pick, if_eq}
+use Rattle.std.specs.Prelude.{Option, None, Some}
+use Rattle.error.specs.Answer.{Answer, Ok, Err, ◌>>=◌, pick, if_eq}
 use Rattle.error.specs.declared.Refusal.TheVariants.{Corrupt}
 use Rattle.byte_fields.specs.Part.{part_of}
 use Rattle.obj.specs.Block.{block_of}
@@ -40,12 +40,12 @@ module _ (r : Reader) (b : List ℕ) (info : Info) where
   item_at m i =
       key_value_at (block_of r b m.block) m info i >>= λ e.
       key_in (part_of (block_of r b m.block) e.key) >>= λ k.
-      got (record { key = k; hit = place_of m.block e })
+      Ok (record { key = k; hit = place_of m.block e })
 
   -- n entries of a leaf from the i-th on
   unfoldable pub items_from : Node → ℕ → ℕ → Answer (List Item)
-  items_from m zero i = got []
-  items_from m (suc n) i = item_at m i >>= λ x. items_from m n (i + 1) >>= λ xs. got (x ∷ xs)
+  items_from m zero i = Ok []
+  items_from m (suc n) i = item_at m i >>= λ x. items_from m n (i + 1) >>= λ xs. Ok (x ∷ xs)
 
   -- the child of an index node's i-th entry
   unfoldable pub child_node : Node → ℕ → Answer Node
@@ -53,25 +53,25 @@ module _ (r : Reader) (b : List ℕ) (info : Info) where
 
   -- n entries of an index node from the i-th on, with f at each child
   unfoldable pub branches_from : (Node → Answer Tree) → Node → ℕ → ℕ → Answer Branches
-  branches_from f m zero i = got bare
+  branches_from f m zero i = Ok bare
   branches_from f m (suc n) i =
       key_at (block_of r b m.block) m info i >>= λ k.
       child_node m i >>= λ c.
       f c >>= λ t.
       branches_from f m n (i + 1) >>= λ bs.
-      got (branch k t bs)
+      Ok (branch k t bs)
 
   -- a leaf is told by its flag, at any level
   unfoldable pub node_tree : (Node → Answer Tree) → Node → Answer Tree
   node_tree f m =
       if_eq (leaf_bit m.flags) 1
-      (items_from m m.nkeys 0 >>= λ xs. got (leaf xs))
-      (branches_from f m m.nkeys 0 >>= λ bs. got (index bs))
+      (items_from m m.nkeys 0 >>= λ xs. Ok (leaf xs))
+      (branches_from f m m.nkeys 0 >>= λ bs. Ok (index bs))
 
   -- a child of a node of a level: "A child whose level + 1 differs from its parent's is 2"
   unfoldable pub child_tree : ℕ → Node → Answer Tree
-  child_tree zero c = no Corrupt
-  child_tree (suc n) c = if_eq c.level n (node_tree (child_tree n) c) (no Corrupt)
+  child_tree zero c = Err Corrupt
+  child_tree (suc n) c = if_eq c.level n (node_tree (child_tree n) c) (Err Corrupt)
 
   -- "every node and entry of the tree reads without refusal": this is got
   unfoldable pub tree_at : Node → Answer Tree
@@ -121,18 +121,18 @@ abbrev mutual
 
 pub record WellFormed (r : Reader) (b : List ℕ) (info : Info) (root : Node) : Type 0 where
   pub tree : Tree
-  pub reads : tree_at r b info root ≡ got tree
+  pub reads : tree_at r b info root ≡ Ok tree
   pub rising : Ascends (items tree)
   pub firsts : Firsts tree
 
 -- a walk over entries "that keeps the last one not above the target"
 unfoldable pub last_in : Target → Option Place → List Item → Option Place
 last_in t kept [] = kept
-last_in t kept (x ∷ xs) = last_in t (pick (is_yes (above? x.key (target_key t))) kept (some x.hit)) xs
+last_in t kept (x ∷ xs) = last_in t (pick (is_yes (above? x.key (target_key t))) kept (Some x.hit)) xs
 
 -- the slow lookup: over all entries of the tree
 unfoldable pub walk_le : Reader → List ℕ → Info → Target → Node → Answer (Option Place)
-walk_le r b info t root = tree_at r b info root >>= λ tree. got (last_in t none (items tree))
+walk_le r b info t root = tree_at r b info root >>= λ tree. Ok (last_in t None (items tree))
 
 -- what an object map says of an object by that walk
 abbrev pub map_slow : Reader → List ℕ → Map → ℕ → Answer (Option MapValue)

@@ -4,11 +4,10 @@ use mathlib.Core.Path.{◌≡◌, refl, sym, ap, ◌∙◌}
 use mathlib.Core.List.{List, [], ◌++◌, append-nil}
 use native.Mathlib.Nat.{zero-add, add_assoc}
 use native.Mathlib.Omega.{arith}
-use borrow.Author.Rules.{rules}
 use lib.ListN.{length, get_or, drop, length-append, get_or-append}
 use lib.Seq.{sets, sets-eq, get_or-append-add}
 use Rattle.error.specs.declared.Refusal.TheVariants.{BufferTooShort}
-use Rattle.error.specs.Answer.{got, no}
+use Rattle.error.specs.Answer.{Ok, Err}
 use Rattle.error.proofs.Laws.{at_most_lem, above}
 use Rattle.byte_fields.specs.Number.{little, little_bytes}
 use Rattle.byte_fields.proofs.Little.{little_length, little_back, sets_append}
@@ -40,22 +39,15 @@ same_place : {a b c d e f g h i j : ℕ} → a ≡ f → b ≡ g → c ≡ h →
     ◌≡◌ {A = Place} (record { block = a; key_off = b; key_len = c; val_off = d; val_len = e }) (record { block = f; key_off = g; key_len = h; val_off = i; val_len = j })
 same_place p q r s t = rw (p, q, r, s, t)
 
--- five numbers read
-pub mark_read : (m : List ℕ) (a b c d e : ℕ) → a ≡ little 8 m 0 → b ≡ little 4 m 8 → c ≡ little 4 m 12 → d ≡ little 4 m 16 → e ≡ little 4 m 20 →
-    record { block = a; key_off = b; key_len = c; val_off = d; val_len = e } ≡ place_in m
-unfolding place_in
-mark_read m a b c d e f g h i j = same_place f g h i j
-
+-- what is left of a buffer that they were put into
 module _ (p : Place) (b : List ℕ) where
-  pub mark_short : length b < 24 → record { answer = no BufferTooShort; buffer = b } ≡ filled (mark_bytes p) b
+  pub mark_short : length b < 24 → record { answer = Err BufferTooShort; buffer = b } ≡ filled (mark_bytes p) b
   unfolding filled
   mark_short h = above _ _ _ _ _ (omega (arith, mark_length p)) refl
 
-  pub mark_filled : (c : List ℕ) → 24 ≤ length b → c ≡ mark_bytes p ++ drop 24 b → record { answer = got 24; buffer = c } ≡ filled (mark_bytes p) b
+  pub mark_filled : (c : List ℕ) → 24 ≤ length b → c ≡ mark_bytes p ++ drop 24 b → record { answer = Ok 24; buffer = c } ≡ filled (mark_bytes p) b
   unfolding filled
   mark_filled c h e = at_most_lem _ _ _ _ _ (omega (arith, mark_length p)) (rw (mark_length p, e))
-
-pub ruleset written = (rules, mark_put, mark_read, mark_short, mark_filled)
 
 -- places whose fields 24 bytes hold
 pub record FieldsFit (p : Place) : Type 0 where

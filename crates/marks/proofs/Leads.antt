@@ -2,11 +2,11 @@
 use Prim.Native.Nat.{ℕ, ◌+◌, ◌*◌, ◌^◌, ◌≤◌}
 use mathlib.Core.Path.{◌≡◌, refl, sym, ap, subst, ◌∙◌}
 use mathlib.Core.List.{List, [], ◌∷◌}
-use mathlib.Core.Option.{Option, none, some}
+use Rattle.std.specs.Prelude.{Option, None}
 use native.Mathlib.Nat.{add-mul, one-mul, mul-one, mul-le-mul_left}
 use native.Mathlib.Omega.{arith}
 use lib.ListN.{length}
-use Rattle.error.specs.Answer.{Answer, got}
+use Rattle.error.specs.Answer.{Answer, Ok}
 use Rattle.error.proofs.Laws.{got_is, bound, at_most_lem, same, le_cases}
 use Rattle.byte_fields.specs.Number.{little}
 use Rattle.byte_fields.specs.declared.Span.{Span}
@@ -16,9 +16,9 @@ use Rattle.obj.specs.declared.reader.Reader.{Reader}
 use Rattle.node.specs.Place.{key_span, value_span, placed_value, key_of, value_of, ValueLies, Small}
 use Rattle.node.specs.declared.place.Place.{Place}
 use Rattle.node.specs.declared.table.KeyValue.{KeyValue}
-use Rattle.node.specs.declared.table.Value.TheVariants.{At}
 use Rattle.node.proofs.Held.{block_short, held_key, held_block, held_value, value_held}
-use Rattle.lookup.specs.Counted.{Counted, after, from, onto}
+use Rattle.lookup.specs.declared.counted.Counted.{Counted}
+use Rattle.lookup.specs.Counted.{after, from, onto}
 use Rattle.lookup.specs.Read.{node_at}
 use Rattle.omap.specs.Load.{map_at}
 use Rattle.omap.proofs.Depth.{from_got}
@@ -40,6 +40,7 @@ use Rattle.marks.specs.Texts.{kept, mark_on, mark_counted, mark_text, record_tex
 use Rattle.marks.specs.Leads.{Leads}
 use Rattle.marks.proofs.Kept.{mark_length, mark_back, FieldsFit}
 use Rattle.marks.proofs.Within.{Stands, scan_stands}
+use Rattle.std.specs.Prelude.{Some}
 
 -- a container that opened
 pub record Sized (image : List ℕ) (r : Reader) : Type 0 where
@@ -47,10 +48,10 @@ pub record Sized (image : List ℕ) (r : Reader) : Type 0 where
   pub low : 4096 ≤ r.block_size
   pub high : r.block_size ≤ 65536
 
-pub opened_sized : (choice : Choice) (image : List ℕ) (c : Container) → (open_at choice image).answer ≡ got c → Sized image c.reader
+pub opened_sized : (choice : Choice) (image : List ℕ) (c : Container) → (open_at choice image).answer ≡ Ok c → Sized image c.reader
 unfolding open_at container_of mapped_of
 opened_sized choice image c =
-    le_cases (λ (x : Counted Container). x.answer ≡ got c → Sized image c.reader)
+    le_cases (λ (x : Counted Container). x.answer ≡ Ok c → Sized image c.reader)
     (λ h e.
     let g = from_got 0 (geometry_at image) _ c e in
     let s = from_got 0 (chosen_of choice image g.0) _ c g.2 in
@@ -81,10 +82,10 @@ module _ (image : List ℕ) (v : Volume) (id kind : ℕ) (z : Sized image v.read
   key_is : key_span p ≡ e.key
   key_is = ap key_span (sym t.is) ∙ held_key t.node.block e
 
-  value_is : placed_value p ≡ At t.value
+  value_is : placed_value p ≡ Some t.value
   value_is = ap placed_value (sym t.is) ∙ (held_value t.node.block e small ∙ t.has)
 
-  own_value : placed_value p ≡ At (value_span p)
+  own_value : placed_value p ≡ Some (value_span p)
   own_value = value_held p t.value value_is
 
   key_lies : p.key_off + p.key_len ≤ r.block_size
@@ -93,7 +94,7 @@ module _ (image : List ℕ) (v : Volume) (id kind : ℕ) (z : Sized image v.read
   value_lies : p.val_off + p.val_len ≤ r.block_size
   value_lies =
       let l : t.value.start + t.value.len ≤ length here = subst (ValueLies (length here)) t.has t.inside.value_in in
-      let q : At (value_span p) ≡ At t.value = sym own_value ∙ value_is in
+      let q : Some (value_span p) ≡ Some t.value = sym own_value ∙ value_is in
       let s : value_span p ≡ t.value = cc in
       omega (arith, l, block_short r image t.node.block, ap (λ (x : Span). x.start) s, ap (λ (x : Span). x.len) s)
 
@@ -124,7 +125,7 @@ module _ (image : List ℕ) (v : Volume) (id kind : ℕ) (z : Sized image v.read
   pub read_back : place_in (mark_bytes p) ≡ p
   read_back = mark_back p fields
 
-  taken : inside r.block_size p ≡ got p
+  taken : inside r.block_size p ≡ Ok p
   unfolding inside
   taken = sym (at_most_lem _ _ _ _ _ key_lies (sym (ap (part_fits r.block_size p) own_value ∙ sym (at_most_lem _ _ _ _ _ value_lies refl))))
 
@@ -132,7 +133,7 @@ module _ (image : List ℕ) (v : Volume) (id kind : ℕ) (z : Sized image v.read
   unfolding place_in
   number = ap (λ (x : Place). x.block) read_back
 
-  pub handed : handed_in r image (mark_bytes p) ≡ got p
+  pub handed : handed_in r image (mark_bytes p) ≡ Ok p
   unfolding handed_in
   handed =
       sym (same _ _ _ _ _ (mark_length p) (at_most_lem _ _ _ _ _ (rw number block_lies) (sym (ap (inside r.block_size) read_back ∙ taken))))
@@ -142,13 +143,13 @@ module _ (image : List ℕ) (v : Volume) (id kind : ℕ) (z : Sized image v.read
   shown_line = rw own_value
 
 -- the bookmark of the record that a scan gives
-text_of : (image : List ℕ) (w : Which) (id kind place s : ℕ) (v : Volume) (o : Option Place) → volume_of_image image w ≡ after s (got v) →
-    (nth place (scan_of image (search_of v id kind) s)).answer ≡ got o → mark_text image w id kind place ≡ got (kept o)
+text_of : (image : List ℕ) (w : Which) (id kind place s : ℕ) (v : Volume) (o : Option Place) → volume_of_image image w ≡ after s (Ok v) →
+    (nth place (scan_of image (search_of v id kind) s)).answer ≡ Ok o → mark_text image w id kind place ≡ Ok (kept o)
 unfolding mark_counted mark_on
 text_of image w id kind place s v o e n =
     let x = nth place (scan_of image (search_of v id kind) s) in
     ap (λ (c : Counted Volume). (onto c λ y t. mark_on image y id kind place t).answer) e
-    ∙ ap (λ (a : Answer (Option Place)). (from x.nodes a λ y. after x.nodes (got (kept y))).answer) n
+    ∙ ap (λ (a : Answer (Option Place)). (from x.nodes a λ y. after x.nodes (Ok (kept y))).answer) n
 
 pub leads : Leads
 unfolding marked_counted record_text
@@ -158,11 +159,11 @@ leads = record {
       let z : Sized image v.reader = rw t.reader at (opened_sized w.checkpoint image t.container t.opened) in
       let x = scan_stands image (search_of v id kind) place s p t.known n in
       record {
-        handed_out = text_of image w id kind place s v (some p) o n;
+        handed_out = text_of image w id kind place s v (Some p) o n;
         long = mark_length p;
         back = read_back image v id kind z p x;
         offsets = low image v id kind z p x;
-        handed_back = rw (t.opened, marked_text, t.reader, handed image v id kind z p x) (ap got (shown_line image v id kind z p x));
+        handed_back = rw (t.opened, marked_text, t.reader, handed image v id kind z p x) (ap Ok (shown_line image v id kind z p x));
       };
-  past = λ image w id kind place s v o n. text_of image w id kind place s v none o n;
+  past = λ image w id kind place s v o n. text_of image w id kind place s v None o n;
 }

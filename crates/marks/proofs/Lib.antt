@@ -1,7 +1,6 @@
 pub mod Kept
 pub mod Fits
 pub mod Lines
-pub mod Calls
 pub mod Within
 pub mod Leads
 pub mod Refuses

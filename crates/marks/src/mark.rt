@@ -6,7 +6,6 @@ ghost use Rattle.marks.specs.Mark.{mark_bytes, place_in};
 use byte_fields::{eight, four, put_little};
 use error::Refusal;
 use node::Place;
-use text::Position;
 
 fn put_mark(p: Place, out: &mut [u8])
     requires { 24 ≤ length out.old }
@@ -19,17 +18,19 @@ fn put_mark(p: Place, out: &mut [u8])
     put_little(out, 20, 4, p.val_len as u64);
 }
 
-pub fn show_mark(p: Place, out: &mut [u8]) -> Position
+#[tactic(auto, using(crate::proofs::Kept::mark_short, crate::proofs::Kept::mark_filled))]
+pub fn show_mark(p: Place, out: &mut [u8]) -> Result<usize, Refusal>
     ensures { filled_at result out.new ≡ filled (mark_bytes p) out.old }
 {
     if out.len() < 24 {
-        return Position::No(Refusal::BufferTooShort);
+        return Err(Refusal::BufferTooShort);
     }
     put_mark(p, out);
-    Position::At(24)
+    Ok(24)
 }
 
 // The place that 24 bytes say.
+#[tactic(auto, unfolding(crate::specs::Mark::place_in))]
 pub fn place_in(mark: &[u8]) -> Place
     requires { 24 ≤ length mark.now }
     ensures { result ≡ place_in mark.now }

@@ -6,16 +6,15 @@ ghost use Rattle.marks.specs.Texts.{mark_on, mark_counted, record_text, marked_c
 use crate::handed::handed_in;
 use crate::mark::show_mark;
 use crate::record_line::show_record;
-use btree::{Found, scan};
-use calls::Progress;
+use btree::scan;
 use checkpoints::Choice;
+use error::Refusal;
 use lists::search;
-use node::Placed;
-use nx::Opening;
+use lookup::Counted;
 use obj::Reader;
-use text::Position;
-use volume::{Volume, VolumeOpening, Which, open_at};
+use volume::{Volume, Which, open_at};
 
+#[tactic(auto, using(calls::proofs::Filling::filled_nothing), unfolding(crate::specs::Texts::mark_on))]
 fn mark_on(
     image: &[u8],
     v: Volume,
@@ -24,27 +23,22 @@ fn mark_on(
     place: u64,
     nodes: u64,
     out: &mut [u8],
-) -> Progress
+) -> Counted<usize>
     ensures { called_by result out.new ≡ answered (mark_on image.now v id kind place nodes) out.old }
 {
     let s = scan(image, search(v, id, kind), place, nodes);
-    let found = s.found;
-    match found {
-        Found::At(p) => Progress {
-            at: show_mark(p, out),
-            nodes: s.nodes,
-        },
-        Found::End => Progress {
-            at: Position::At(0),
-            nodes: s.nodes,
-        },
-        Found::No(e) => Progress {
-            at: Position::No(e),
-            nodes: s.nodes,
-        },
+    let answer = match s.answer {
+        Ok(Some(p)) => show_mark(p, out),
+        Ok(None) => Ok(0),
+        Err(e) => Err(e),
+    };
+    Counted {
+        nodes: s.nodes,
+        answer,
     }
 }
 
+#[tactic(auto, unfolding(crate::specs::Texts::mark_counted))]
 pub fn mark_text(
     image: &[u8],
     which: Which,
@@ -52,42 +46,38 @@ pub fn mark_text(
     kind: u8,
     place: u64,
     out: &mut [u8],
-) -> Progress
+) -> Counted<usize>
     ensures { called_by result out.new ≡ answered (mark_counted image.now which id kind place) out.old }
 {
     let opened = open_at(image, which);
-    let volume = opened.volume;
-    match volume {
-        VolumeOpening::Got(v) => mark_on(image, v, id, kind, place, opened.nodes, out),
-        VolumeOpening::No(e) => Progress {
-            at: Position::No(e),
+    match opened.answer {
+        Ok(v) => mark_on(image, v, id, kind, place, opened.nodes, out),
+        Err(e) => Counted {
+            answer: Err(e),
             nodes: opened.nodes,
         },
     }
 }
 
-fn record_of(reader: Reader, image: &[u8], mark: &[u8], out: &mut [u8]) -> Position
+#[tactic(auto, unfolding(crate::specs::Texts::record_text))]
+fn record_of(reader: Reader, image: &[u8], mark: &[u8], out: &mut [u8]) -> Result<usize, Refusal>
     ensures { filled_at result out.new ≡ filled_by (record_text reader image.now mark.now) out.old }
 {
-    match handed_in(reader, image, mark) {
-        Placed::Got(p) => show_record(reader, image, p, out),
-        Placed::No(e) => Position::No(e),
-    }
+    let p = handed_in(reader, image, mark)?;
+    show_record(reader, image, p, out)
 }
 
-pub fn marked_text(image: &[u8], choice: Choice, mark: &[u8], out: &mut [u8]) -> Progress
+#[tactic(auto, unfolding(crate::specs::Texts::marked_counted))]
+pub fn marked_text(image: &[u8], choice: Choice, mark: &[u8], out: &mut [u8]) -> Counted<usize>
     ensures { called_by result out.new ≡ answered (marked_counted choice image.now mark.now) out.old }
 {
     let opened = nx::open(image, choice);
-    let container = opened.container;
-    match container {
-        Opening::Got(c) => Progress {
-            at: record_of(c.reader, image, mark, out),
-            nodes: opened.nodes,
-        },
-        Opening::No(e) => Progress {
-            at: Position::No(e),
-            nodes: opened.nodes,
-        },
+    let answer = match opened.answer {
+        Ok(c) => record_of(c.reader, image, mark, out),
+        Err(e) => Err(e),
+    };
+    Counted {
+        nodes: opened.nodes,
+        answer,
     }
 }

@@ -6,7 +6,7 @@ use mathlib.Core.Logic.{◌⊎◌, inl, inr}
 use native.Mathlib.Omega.{arith}
 use borrow.Author.Rules.{rules}
 use lib.ListN.{length}
-use Rattle.error.specs.Answer.{Answer, got, no, number_of, if_le}
+use Rattle.error.specs.Answer.{Answer, Ok, Err, number_of, if_le}
 use Rattle.error.specs.declared.Refusal.{Refusal}
 use Rattle.error.specs.declared.Refusal.TheVariants.{BufferTooShort, TooLong}
 use Rattle.error.proofs.Laws.{at_most_lem, above, same_by, other_by}
@@ -14,8 +14,6 @@ use Rattle.extents.proofs.Verdicts.{le_or_gt}
 use Rattle.totals.specs.declared.Totals.{Totals}
 use Rattle.totals.specs.Totals.{counts, totals_of}
 use Rattle.text.specs.Output.{Output, at, refused, output_of, puts}
-use Rattle.text.specs.declared.Position.{Position}
-use Rattle.text.specs.declared.Position.TheVariants.{At, No}
 use Rattle.text.proofs.Whole as text-whole
 use Rattle.volume.specs.declared.Volume.{Volume}
 use Rattle.tally.specs.declared.counts.Tally.{Tally}
@@ -33,16 +31,15 @@ use Rattle.forms.specs.Inner.{ending, run}
 use Rattle.forms.proofs.Running.{run_says, run_refused, run_then}
 use Rattle.listing.specs.Inner.{body_of}
 use Rattle.measure.specs.declared.gauge.Measured.{Measured}
-use Rattle.measure.specs.declared.gauge.Measured.TheVariants as measured
 use Rattle.measure.specs.Line.{measured_told}
 use Rattle.measure.proofs.Shown.{shown_weight}
 
 -- ---- a refusal
 
-pub too_long : (e : Refusal) (n : ℕ) → n ≡ number_of e → n ≡ 6 → ◌≡◌ {A = Answer Measure} (no TooLong) (of_listing 0 (no e))
+pub too_long : (e : Refusal) (n : ℕ) → n ≡ number_of e → n ≡ 6 → ◌≡◌ {A = Answer Measure} (Err TooLong) (of_listing 0 (Err e))
 too_long e n p q = same_by _ _ _ _ _ n p q refl
 
-pub as_it_is : (e : Refusal) (n : ℕ) → n ≡ number_of e → (n ≡ 6 → ⊥) → ◌≡◌ {A = Answer Measure} (no e) (of_listing 0 (no e))
+pub as_it_is : (e : Refusal) (n : ℕ) → n ≡ number_of e → (n ≡ 6 → ⊥) → ◌≡◌ {A = Answer Measure} (Err e) (of_listing 0 (Err e))
 as_it_is e n p q = other_by _ _ _ _ _ n p q refl
 
 -- ---- a trace over no buffer
@@ -75,31 +72,31 @@ module _ (room : ℕ) (t : Trace) where
           let a : at l n ≡ refused BufferTooShort = w ∙ ap (ending (stop e)) (sym (above _ _ _ _ _ k refl)) in
           absurd (let z : ◌≡◌ {A = ℕ} 0 1 = cc in omega arith)
 
-  within_at : (l : List ℕ) (n : ℕ) → run room t (at [] 0) ≡ at l n → within room t ≡ got t.text
+  within_at : (l : List ℕ) (n : ℕ) → run room t (at [] 0) ≡ at l n → within room t ≡ Ok t.text
   unfolding within
   within_at l n h = let g = gauged_at l n h in sym (at_most_lem _ _ _ _ _ g.fits refl) ∙ ap (text_or t.text) g.ends
 
-  within_no : (e : Refusal) → run room t (at [] 0) ≡ refused e → within room t ≡ no e
+  within_no : (e : Refusal) → run room t (at [] 0) ≡ refused e → within room t ≡ Err e
   unfolding within
   within_no e h = of (le_or_gt (length t.text) room) t.ended refl (sym h ∙ gauged)
     where
       of : (length t.text ≤ room) ⊎ (room < length t.text) → (x : End) → t.ended ≡ x → refused e ≡ ending x (if_le (length t.text) room (at [] (length t.text)) (refused BufferTooShort))
-          → if_le (length t.text) room (text_or t.text t.ended) (no BufferTooShort) ≡ no e
+          → if_le (length t.text) room (text_or t.text t.ended) (Err BufferTooShort) ≡ Err e
       of (inl k) done p w =
           let a : refused e ≡ at [] (length t.text) = w ∙ sym (at_most_lem _ _ _ _ _ k refl) in
           absurd (let z : ◌≡◌ {A = ℕ} 0 1 = cc in omega arith)
       of (inl k) (stop x) p w =
           let a : refused e ≡ refused x = w ∙ ap (ending (stop x)) (sym (at_most_lem _ _ _ _ _ k refl)) in
           let m : x ≡ e = cc in
-          sym (at_most_lem _ _ _ _ _ k refl) ∙ ap (text_or t.text) p ∙ ap no m
+          sym (at_most_lem _ _ _ _ _ k refl) ∙ ap (text_or t.text) p ∙ ap Err m
       of (inr k) done p w =
           let a : refused e ≡ refused BufferTooShort = w ∙ sym (above _ _ _ _ _ k refl) in
           let m : BufferTooShort ≡ e = cc in
-          sym (above _ _ _ _ _ k refl) ∙ ap no m
+          sym (above _ _ _ _ _ k refl) ∙ ap Err m
       of (inr k) (stop x) p w =
           let a : refused e ≡ refused BufferTooShort = w ∙ ap (ending (stop x)) (sym (above _ _ _ _ _ k refl)) in
           let m : BufferTooShort ≡ e = cc in
-          sym (above _ _ _ _ _ k refl) ∙ ap no m
+          sym (above _ _ _ _ _ k refl) ∙ ap Err m
 
 -- ---- of a volume
 
@@ -137,7 +134,7 @@ module _ (b : List ℕ) (v : Volume) where
         depth = ap (λ (x : Weight). x.below) e ∙ f ∙ sym (tree_deep (view_of b v) k.tree 2 levels k.shows k.low);
       }
 
-  module _ (none c : List ℕ) (p : Position) (y : length none ≡ 0) (h : output_of p c ≡ run most (body_of b v) (at none 0)) where
+  module _ (none c : List ℕ) (p : Answer ℕ) (y : length none ≡ 0) (h : output_of p c ≡ run most (body_of b v) (at none 0)) where
     body_run : output_of p c ≡ run most (body_of b v) (at [] 0)
     body_run = of none y h
       where
@@ -145,16 +142,16 @@ module _ (b : List ℕ) (v : Volume) where
         of [] k g = g
         of (z ∷ x) k g = absurd (omega arith)
 
-    pub measured_body : (e : Refusal) (z : Measured) → p ≡ No e → measured_told z ≡ of_listing 0 (no e) → measured_told z ≡ measured (view_of b v)
+    pub measured_body : (e : Refusal) (z : Answer Measured) → p ≡ Err e → measured_told z ≡ of_listing 0 (Err e) → measured_told z ≡ measured (view_of b v)
     measured_body e z q g =
-        let r : run most (body_of b v) (at [] 0) ≡ refused e = sym body_run ∙ ap (λ (x : Position). output_of x c) q in
+        let r : run most (body_of b v) (at [] 0) ≡ refused e = sym body_run ∙ ap (λ (x : Answer ℕ). output_of x c) q in
         let u : run most (trace (view_of b v)) (at [] 0) ≡ refused e = trace_run ∙ ap (run most _) r ∙ run_refused most _ e in
-        g ∙ sym (by_trace (no e) (within_no most (trace (view_of b v)) e u))
+        g ∙ sym (by_trace (Err e) (within_no most (trace (view_of b v)) e u))
 
-    module _ (n : ℕ) (q : p ≡ At n) (t : Tally) (m : ℕ) (i : m ≡ levels) (k : tally_told t ≡ capped (weight b v m 2)) (o : Position) (d : List ℕ)
+    module _ (n : ℕ) (q : p ≡ Ok n) (t : Tally) (m : ℕ) (i : m ≡ levels) (k : tally_told t ≡ capped (weight b v m 2)) (o : Answer ℕ) (d : List ℕ)
         (g : output_of o d ≡ puts most (foot_lines (counts t.nodes t.bytes t.attrs)) (output_of p c)) where
       as_at : run most (body_of b v) (at [] 0) ≡ at c n
-      as_at = sym body_run ∙ ap (λ (x : Position). output_of x c) q
+      as_at = sym body_run ∙ ap (λ (x : Answer ℕ). output_of x c) q
 
       its : Tallied t
       its = tallied t c n (rw i at k) as_at
@@ -165,15 +162,15 @@ module _ (b : List ℕ) (v : Volume) where
           ∙ run_says most (foot_lines (totals_of (body_of b v).text)) (output_of p c) _ refl
           ∙ ap (run most (says (foot_lines (totals_of (body_of b v).text)))) body_run ∙ sym trace_run
 
-      pub measured_got : (j : ℕ) → o ≡ At j → ◌≡◌ {A = Answer Measure} (got (record { length = j; depth = t.below })) (measured (view_of b v))
+      pub measured_got : (j : ℕ) → o ≡ Ok j → ◌≡◌ {A = Answer Measure} (Ok (record { length = j; depth = t.below })) (measured (view_of b v))
       measured_got j s =
-          let r : run most (trace (view_of b v)) (at [] 0) ≡ at d j = sym whole ∙ ap (λ (x : Position). output_of x d) s in
+          let r : run most (trace (view_of b v)) (at [] 0) ≡ at d j = sym whole ∙ ap (λ (x : Answer ℕ). output_of x d) s in
           let l = gauged_at most (trace (view_of b v)) d j r in
-          (λ x. got (record { length = l.long x; depth = its.depth x })) ∙ sym (by_trace (got _) (within_at most (trace (view_of b v)) d j r))
+          (λ x. Ok (record { length = l.long x; depth = its.depth x })) ∙ sym (by_trace (Ok _) (within_at most (trace (view_of b v)) d j r))
 
-      pub measured_foot : (e : Refusal) (z : Measured) → o ≡ No e → measured_told z ≡ of_listing 0 (no e) → measured_told z ≡ measured (view_of b v)
+      pub measured_foot : (e : Refusal) (z : Answer Measured) → o ≡ Err e → measured_told z ≡ of_listing 0 (Err e) → measured_told z ≡ measured (view_of b v)
       measured_foot e z s f =
-          let r : run most (trace (view_of b v)) (at [] 0) ≡ refused e = sym whole ∙ ap (λ (x : Position). output_of x d) s in
-          f ∙ sym (by_trace (no e) (within_no most (trace (view_of b v)) e r))
+          let r : run most (trace (view_of b v)) (at [] 0) ≡ refused e = sym whole ∙ ap (λ (x : Answer ℕ). output_of x d) s in
+          f ∙ sym (by_trace (Err e) (within_no most (trace (view_of b v)) e r))
 
 pub ruleset gauging = (rules, too_long, as_it_is, measured_body, measured_got, measured_foot)

@@ -5,7 +5,7 @@ use mathlib.Core.Bool.{Bool, true, false}
 use mathlib.Core.List.{List, [], ◌∷◌, map, head-eq_of_cons-eq, tail-eq_of_cons-eq}
 use native.Mathlib.Omega.{arith}
 use lib.ListN.{length, length-map}
-use Rattle.error.specs.Answer.{Answer, got, ◌>>=◌}
+use Rattle.error.specs.Answer.{Answer, Ok, ◌>>=◌}
 use Rattle.error.proofs.Laws.{got_is, bound, same, other}
 use Rattle.totals.specs.declared.Totals.{Totals}
 use Rattle.totals.specs.Totals.{counts, plus}
@@ -32,18 +32,18 @@ module _ (b : List ℕ) (v : Volume) where
   -- the inode, and the id that it shows
   record Found (id : ℕ) (f : InodeShown) : Type 0 where
     it : Inode
-    found : (inode_of b v id 0).answer ≡ got it
+    found : (inode_of b v id 0).answer ≡ Ok it
     shown : inode_shown v.reader b it ≡ f
     named : f.id ≡ id
 
-  find : (id : ℕ) (f : InodeShown) → inode_answer b v id ≡ got f → Found id f
+  find : (id : ℕ) (f : InodeShown) → inode_answer b v id ≡ Ok f → Found id f
   unfolding inode_answer inode_shown
   find id f h =
       let a = bound (inode_of b v id 0).answer _ f h in
       let q : inode_shown v.reader b a.0 ≡ f = got_is _ f a.1.1 in
       record { it = a.0; found = a.1.0; shown = q; named = sym (ap (λ (g : InodeShown). g.id) q) ∙ (inode_placed b v id 0 a.0 a.1.0).parts.named }
 
-  attributes_long : (id : ℕ) (l : List (AttributeShown (List ℕ))) → attributes_answer b v id ≡ got (map heard l) → length (attributes_on b v id) ≡ length l
+  attributes_long : (id : ℕ) (l : List (AttributeShown (List ℕ))) → attributes_answer b v id ≡ Ok (map heard l) → length (attributes_on b v id) ≡ length l
   unfolding attributes_answer attributes_on attributes_of
   attributes_long id l h =
       let a = bound (attributes_of b v id 0).answer _ _ h in
@@ -55,7 +55,7 @@ module _ (b : List ℕ) (v : Volume) where
     listed : entries_on b v id ≡ them
     shown : map (entry_shown v.reader b) them ≡ es
 
-  entries_those : (id : ℕ) (es : List EntryShown) → entries_answer b v id ≡ got es → Those id es
+  entries_those : (id : ℕ) (es : List EntryShown) → entries_answer b v id ≡ Ok es → Those id es
   unfolding entries_answer entries_on entries_of
   entries_those id es h =
       let a = bound (entries_of b v id 0).answer _ es h in

@@ -2,13 +2,11 @@
 #![tactic(auto)]
 
 ghost use Rattle.std.specs.Prelude.{◌≡◌, [], ◌∷◌};
-ghost use Rattle.byte_fields.specs.Number.{told};
 ghost use Rattle.crc.specs.Crc.{crc};
 ghost use Rattle.crc.specs.Tabled.{TableRule};
 ghost use Rattle.name_hash.specs.Hash.{castagnoli, lower, fold_case, name_hash, name_len_and_hash};
 
-use byte_fields::Number;
-use crc::{byte_step, crc_of};
+use crc::crc_of;
 use error::Refusal;
 
 // A byte's word is the byte after eight shifts.
@@ -55,14 +53,15 @@ fn table() -> [u32; 256]
 }
 
 // A character as 4 bytes.
+#[tactic(auto, using(crate::proofs::Laws::by_table))]
 fn character_step(words: &[u32], register: u32, x: u8) -> u32
     requires { TableRule castagnoli words.now }
     ensures { result ≡ crc castagnoli register (x ∷ 0 ∷ 0 ∷ 0 ∷ []) }
 {
-    let first = byte_step(words, register, x);
-    byte_step(words, byte_step(words, byte_step(words, first, 0), 0), 0)
+    crc_of(words, register, &[x, 0, 0, 0])
 }
 
+#[tactic(auto, using(crate::proofs::Laws::by_table))]
 pub fn crc32c_raw(register: u32, b: &[u8]) -> u32
     ensures { result ≡ crc castagnoli register b.now }
 {
@@ -70,62 +69,48 @@ pub fn crc32c_raw(register: u32, b: &[u8]) -> u32
     crc_of(&words, register, b)
 }
 
+#[tactic(auto, unfolding(crate::specs::Hash::lower, error::specs::Answer::if_le))]
 pub fn lower_case(x: u8) -> u8
     ensures { result ≡ lower x }
 {
-    if x < 65 {
-        return x;
-    }
-    if x <= 90 {
-        return x + 32;
-    }
-    x
+    x.to_ascii_lowercase()
 }
 
 // A character as names are compared.
-pub fn fold_case(x: u8, insensitive: bool) -> Number
-    ensures { told result ≡ fold_case insensitive x }
+#[tactic(auto, unfolding(crate::specs::Hash::fold_case, crate::specs::Hash::lower, error::specs::Answer::if_le))]
+pub fn fold_case(x: u8, insensitive: bool) -> Result<u64, Refusal>
+    ensures { result ≡ fold_case insensitive x }
 {
-    if 127 < x {
-        return Number::No(Refusal::CharacterNotCovered);
+    if !x.is_ascii() {
+        return Err(Refusal::CharacterNotCovered);
     }
-    if insensitive {
-        return Number::Got(lower_case(x) as u64);
-    }
-    Number::Got(x as u64)
+    Ok(u64::from(if insensitive { lower_case(x) } else { x }))
 }
 
-fn hash_by(words: &[u32], name: &[u8], insensitive: bool) -> Number
+#[tactic(auto, using(crate::proofs::Laws::hashes))]
+fn hash_by(words: &[u32], name: &[u8], insensitive: bool) -> Result<u64, Refusal>
     requires { TableRule castagnoli words.now }
-    ensures { told result ≡ name_hash insensitive name.now }
+    ensures { result ≡ name_hash insensitive name.now }
 {
     let mut c: u32 = 0xFFFFFFFF;
-    let mut i = 0;
-    while i < name.len() {
-        match fold_case(name[i], insensitive) {
-            Number::Got(x) => {
-                c = character_step(words, c, x as u8);
-            }
-            Number::No(e) => return Number::No(e),
-        }
-        i += 1;
+    for x in name {
+        c = character_step(words, c, fold_case(*x, insensitive)? as u8);
     }
-    Number::Got((c % 4194304) as u64)
+    Ok((c % 4194304) as u64)
 }
 
-pub fn name_hash(name: &[u8], insensitive: bool) -> Number
-    ensures { told result ≡ name_hash insensitive name.now }
+pub fn name_hash(name: &[u8], insensitive: bool) -> Result<u64, Refusal>
+    ensures { result ≡ name_hash insensitive name.now }
 {
     let words = table();
     hash_by(&words, name, insensitive)
 }
 
 // The length, with the closing zero byte, below the hash.
-pub fn name_len_and_hash(name: &[u8], insensitive: bool) -> Number
-    ensures { told result ≡ name_len_and_hash insensitive name.now }
+#[tactic(auto, using(crate::proofs::Laws::all), unfolding(crate::specs::Hash::name_len_and_hash))]
+pub fn name_len_and_hash(name: &[u8], insensitive: bool) -> Result<u64, Refusal>
+    ensures { result ≡ name_len_and_hash insensitive name.now }
 {
-    match name_hash(name, insensitive) {
-        Number::Got(hash) => Number::Got(((name.len() + 1) % 1024) as u64 + 1024 * hash),
-        Number::No(e) => Number::No(e),
-    }
+    let hash = name_hash(name, insensitive)?;
+    Ok(((name.len() + 1) % 1024) as u64 + 1024 * hash)
 }

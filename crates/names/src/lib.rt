@@ -3,7 +3,6 @@
 
 ghost use Rattle.std.specs.Prelude.{◌≡◌};
 ghost use Rattle.names.specs.Name.{name_from, name_of, name_bytes};
-ghost use Rattle.names.specs.Inner.{Passed};
 
 use byte_fields::{Span, cstr, part};
 use utf8::replaced_parts;
@@ -26,23 +25,7 @@ fn named(start: usize, len: usize, replaced: usize) -> Name
     }
 }
 
-// How many bytes b begins with that neither end the name nor are replaced.
-fn plain(b: &[u8]) -> usize
-    ensures { Passed b.now result }
-{
-    let mut n = 0;
-    while n < b.len() {
-        if b[n] == 0 {
-            return n;
-        }
-        if 0x7F < b[n] {
-            return n;
-        }
-        n += 1;
-    }
-    n
-}
-
+#[tactic(auto, using(crate::proofs::Laws::name_slow))]
 fn read_whole(b: &[u8], start: usize) -> Name
     ensures { result ≡ name_from start b.now }
 {
@@ -50,21 +33,23 @@ fn read_whole(b: &[u8], start: usize) -> Name
     named(start, c.len(), replaced_parts(c))
 }
 
-// The name that b begins with. Most are ASCII: their end is found in the same pass.
+// The name that b begins with. Most are ASCII: their end is found in one pass, up to the first byte that ends the name or may be replaced.
 fn name_from(b: &[u8], start: usize) -> Name
     ensures { result ≡ name_from start b.now }
 {
-    let n = plain(b);
-    if b.len() <= n {
-        return named(start, n, 0);
+    match b.iter().position(|x| *x == 0 || 0x7F < *x) {
+        None => named(start, b.len(), 0),
+        Some(n) => {
+            if b[n] == 0 {
+                return named(start, n, 0);
+            }
+            read_whole(b, start)
+        }
     }
-    if b[n] == 0 {
-        return named(start, n, 0);
-    }
-    read_whole(b, start)
 }
 
 // The name that a part of b holds.
+#[tactic(auto, using(crate::proofs::Laws::name_within))]
 pub fn name_of(b: &[u8], s: Span) -> Name
     ensures { result ≡ name_of b.now s }
 {
@@ -72,6 +57,7 @@ pub fn name_of(b: &[u8], s: Span) -> Name
 }
 
 // Its bytes.
+#[tactic(auto, unfolding(crate::specs::Name::name_bytes))]
 pub fn name_bytes(b: &[u8], n: Name) -> &[u8]
     ensures { result.now ≡ name_bytes b.now n }
 {

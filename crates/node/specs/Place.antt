@@ -1,7 +1,7 @@
 -- A record's place. Document 02, request 10: "a block number of 64 bits, then the key's offset inside the block and its length, then the value's, 32 bits
 -- each".
-use Rattle.std.specs.Prelude.{ℕ, ◌+◌, ◌-◌, ◌^◌, ◌≤◌, ◌<◌, List}
-use Rattle.error.specs.Answer.{Answer, got, no, ◌>>=◌, if_eq}
+use Rattle.std.specs.Prelude.{ℕ, ◌+◌, ◌-◌, ◌^◌, ◌≤◌, ◌<◌, List, None, Option, Some}
+use Rattle.error.specs.Answer.{Answer, Ok, Err, ◌>>=◌, if_eq}
 use Rattle.byte_fields.specs.Part.{part_of}
 use Rattle.byte_fields.specs.declared.Span.{Span}
 use Rattle.obj.specs.Block.{block_of}
@@ -10,15 +10,7 @@ use Rattle.node.specs.Entry.{key_value_at}
 use Rattle.node.specs.declared.layout.Node.{Node}
 use Rattle.node.specs.declared.layout.Info.{Info}
 use Rattle.node.specs.declared.table.KeyValue.{KeyValue}
-use Rattle.node.specs.declared.table.Value.{Value}
-use Rattle.node.specs.declared.table.Value.TheVariants.{At, Missing}
 use Rattle.node.specs.declared.place.Place.{Place}
-use Rattle.node.specs.declared.place.Placed.{Placed}
-use Rattle.node.specs.declared.place.Placed.TheVariants.{Got, No}
-
-abbrev pub placed_told : Placed → Answer Place
-placed_told (Got p) = got p
-placed_told (No e) = no e
 
 -- "a missing value is 0xFFFFFFFF in both its fields"
 abbrev pub no_part : ℕ
@@ -31,12 +23,12 @@ abbrev pub value_span : Place → Span
 value_span p = record { start = p.val_off; len = p.val_len }
 
 -- the value that a place holds
-unfoldable pub placed_value : Place → Value
-placed_value p = if_eq p.val_off no_part (if_eq p.val_len no_part Missing (At (value_span p))) (At (value_span p))
+unfoldable pub placed_value : Place → Option Span
+placed_value p = if_eq p.val_off no_part (if_eq p.val_len no_part None (Some (value_span p))) (Some (value_span p))
 
-abbrev pub place_with : ℕ → Span → Value → Place
-place_with block key (At v) = record { block = block; key_off = key.start; key_len = key.len; val_off = v.start; val_len = v.len }
-place_with block key Missing = record { block = block; key_off = key.start; key_len = key.len; val_off = no_part; val_len = no_part }
+abbrev pub place_with : ℕ → Span → Option Span → Place
+place_with block key (Some v) = record { block = block; key_off = key.start; key_len = key.len; val_off = v.start; val_len = v.len }
+place_with block key None = record { block = block; key_off = key.start; key_len = key.len; val_off = no_part; val_len = no_part }
 
 -- the place of an entry of the node at a block
 unfoldable pub place_of : ℕ → KeyValue → Place
@@ -44,7 +36,7 @@ place_of block e = place_with block e.key e.value
 
 -- the place of the i-th entry of a node
 unfoldable pub place_at : Reader → List ℕ → Node → Info → ℕ → Answer Place
-place_at r b m info i = key_value_at (block_of r b m.block) m info i >>= λ e. got (place_of m.block e)
+place_at r b m info i = key_value_at (block_of r b m.block) m info i >>= λ e. Ok (place_of m.block e)
 
 -- the bytes of a record's key and of its value (document 01, "What must change shape": `scan` "answers places in the image"); a missing value has
 -- none, as no block reaches so far
@@ -58,9 +50,9 @@ value_of r b p = part_of (block_of r b p.block) (value_span p)
 abbrev pub SpanLies : ℕ → Span → Type 0
 SpanLies n s = s.start + s.len ≤ n
 
-abbrev pub ValueLies : ℕ → Value → Type 0
-ValueLies n (At v) = SpanLies n v
-ValueLies n Missing = Unit {0}
+abbrev pub ValueLies : ℕ → Option Span → Type 0
+ValueLies n (Some v) = SpanLies n v
+ValueLies n None = Unit {0}
 
 pub record Inside (n : ℕ) (e : KeyValue) : Type 0 where
   pub key_in : SpanLies n e.key

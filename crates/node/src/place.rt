@@ -1,10 +1,10 @@
 // A record's place in 24 bytes: its block, and where its key and its value lie inside the block. Document 02, request 10.
 ghost use Rattle.std.specs.Prelude.{◌≡◌};
 ghost use Rattle.byte_fields.specs.Part.{part_of};
-ghost use Rattle.node.specs.Place.{placed_told, place_of, place_at, key_span, value_span, placed_value, key_of, value_of, Small};
+ghost use Rattle.node.specs.Place.{place_of, place_at, key_span, value_span, placed_value, key_of, value_of, Small};
 
 use crate::layout::{Info, Node};
-use crate::table::{Entered, KeyValue, Value, entry};
+use crate::table::{KeyValue, entry};
 use byte_fields::{Span, part};
 use error::Refusal;
 use obj::Reader;
@@ -19,12 +19,6 @@ pub struct Place {
     pub val_len: u32,
 }
 
-#[derive(Clone, Copy)]
-pub enum Placed {
-    Got(Place),
-    No(Refusal),
-}
-
 // The place of an entry of the node at a block.
 pub fn place_of(block: u64, e: KeyValue) -> Place
     requires { Small e }
@@ -33,14 +27,14 @@ pub fn place_of(block: u64, e: KeyValue) -> Place
     let key = e.key;
     let value = e.value;
     match value {
-        Value::At(v) => Place {
+        Some(v) => Place {
             block: block,
             key_off: key.start as u32,
             key_len: key.len as u32,
             val_off: v.start as u32,
             val_len: v.len as u32,
         },
-        Value::Missing => Place {
+        None => Place {
             block: block,
             key_off: key.start as u32,
             key_len: key.len as u32,
@@ -51,13 +45,18 @@ pub fn place_of(block: u64, e: KeyValue) -> Place
 }
 
 // The place of the i-th entry of a node. A block is shorter than 2^32 bytes, so whatever lies in it fits.
-pub fn entry_place(reader: Reader, image: &[u8], node: Node, info: Info, i: u32) -> Placed
-    ensures { placed_told result ≡ place_at reader image.now node info i }
+#[tactic(auto, using(crate::proofs::Places::making), unfolding(crate::specs::Place::place_at))]
+pub fn entry_place(
+    reader: Reader,
+    image: &[u8],
+    node: Node,
+    info: Info,
+    i: u32,
+) -> Result<Place, Refusal>
+    ensures { result ≡ place_at reader image.now node info i }
 {
-    match entry(reader.block(image, node.block), node, info, i) {
-        Entered::Got(e) => Placed::Got(place_of(node.block, e)),
-        Entered::No(e) => Placed::No(e),
-    }
+    let e = entry(reader.block(image, node.block), node, info, i)?;
+    Ok(place_of(node.block, e))
 }
 
 fn key_span(place: Place) -> Span
@@ -79,16 +78,16 @@ fn value_span(place: Place) -> Span
 }
 
 // Where the value lies, if there is one.
-pub fn held_value(place: Place) -> Value
+pub fn held_value(place: Place) -> Option<Span>
     ensures { result ≡ placed_value place }
 {
     if place.val_off != 4294967295 {
-        return Value::At(value_span(place));
+        return Some(value_span(place));
     }
     if place.val_len != 4294967295 {
-        return Value::At(value_span(place));
+        return Some(value_span(place));
     }
-    Value::Missing
+    None
 }
 
 // The bytes of a record's key, in its block.

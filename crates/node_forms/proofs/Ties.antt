@@ -7,9 +7,9 @@ use native.Mathlib.Omega.{arith}
 use borrow.Author.Tests.{eqb-false}
 use lib.Dec.{eqb}
 use lib.ListN.{length}
-use Rattle.error.specs.Answer.{Answer, got, no, ◌>>=◌, pick, if_eq}
+use Rattle.error.specs.Answer.{Answer, Ok, Err, ◌>>=◌, pick, if_eq}
 use Rattle.error.specs.declared.Refusal.{Refusal}
-use Rattle.lookup.specs.Counted.{Counted}
+use Rattle.lookup.specs.declared.counted.Counted.{Counted}
 use Rattle.volume.specs.declared.Volume.{Volume}
 use Rattle.records.specs.declared.attribute.Attribute.{Attribute}
 use Rattle.records.specs.declared.directory.Entry.{Entry}
@@ -50,23 +50,23 @@ unfolding readings reading text_in
 trace_reading {A} c f = of c.answer
   where
     of : (x : Answer A) → trace_in (passing c.nodes (read_as x f)) ≡ reading x (λ a. trace_in (f a))
-    of (got a) = refl
-    of (no e) = refl
+    of (Ok a) = refl
+    of (Err e) = refl
 
 trace_writes : (t : List ℕ) → trace_in (writes t) ≡ says t
 unfolding text_in
 trace_writes t = ap (λ (x : List ℕ). says x) (append-nil t)
 
 -- a reading whose answer is made into something else
-reading_made : {A B : Type 0} (a : Answer A) (g : A → B) (k : B → Trace) → reading (a >>= λ x. got (g x)) k ≡ reading a (λ x. k (g x))
+reading_made : {A B : Type 0} (a : Answer A) (g : A → B) (k : B → Trace) → reading (a >>= λ x. Ok (g x)) k ≡ reading a (λ x. k (g x))
 unfolding reading
-reading_made (got x) g k = refl
-reading_made (no e) g k = refl
+reading_made (Ok x) g k = refl
+reading_made (Err e) g k = refl
 
-reading_same : {A : Type 0} (a : Answer A) (f g : A → Trace) → ((x : A) → a ≡ got x → f x ≡ g x) → reading a f ≡ reading a g
+reading_same : {A : Type 0} (a : Answer A) (f g : A → Trace) → ((x : A) → a ≡ Ok x → f x ≡ g x) → reading a f ≡ reading a g
 unfolding reading
-reading_same (got x) f g h = h x refl
-reading_same (no e) f g h = refl
+reading_same (Ok x) f g h = h x refl
+reading_same (Err e) f g h = refl
 
 attributes_tie : (b : List ℕ) (v : Volume) (l : List Attribute) → trace_in (attribute_courses b v l) ≡ attribute_lines (map (with_contents b v) l)
 unfolding attribute_courses attribute_course attribute_lines attribute_shown text_in
@@ -106,11 +106,11 @@ then_assoc t u w = of t.ended
     of (stop e) = refl
 
 module _ (b : List ℕ) (v : Volume) where
-  module _ (id : ℕ) (i : Inode) (h : (inode_of b v id 0).answer ≡ got i) where
+  module _ (id : ℕ) (i : Inode) (h : (inode_of b v id 0).answer ≡ Ok i) where
     same_id : i.id ≡ id
     same_id = (inode_placed b v id 0 i h).parts.named
 
-    own : (inode_of b v i.id 0).answer ≡ got i
+    own : (inode_of b v i.id 0).answer ≡ Ok i
     own = ap (λ (n : ℕ). (inode_of b v n 0).answer) same_id ∙ h
 
     data_tie : trace_in (data_course b v i) ≡ data_line (view_of b v) (inode_shown v.reader b i)
@@ -152,7 +152,7 @@ module _ (b : List ℕ) (v : Volume) where
       seen : InodeShown → List (AttributeShown (Answer (List ℕ))) → List EntryShown → Trace
       seen f l es = attribute_lines l then data_line (view_of b v) f then entry_forms (node_form (view_of b v) d) es then says (close [])
 
-      rest : (i : Inode) → (inode_of b v id 0).answer ≡ got i → ((n : ℕ) → trace_in (node_course b v d n) ≡ node_form (view_of b v) d n) → (l : List Attribute) (es : List Entry) →
+      rest : (i : Inode) → (inode_of b v id 0).answer ≡ Ok i → ((n : ℕ) → trace_in (node_course b v d n) ≡ node_form (view_of b v) d n) → (l : List Attribute) (es : List Entry) →
           trace_in (after i l es) ≡ seen (inode_shown v.reader b i) (map (with_contents b v) l) (map (entry_shown v.reader b) es)
       rest i h k l es =
           trace_then (attribute_courses b v l) _
@@ -165,7 +165,7 @@ module _ (b : List ℕ) (v : Volume) where
           ∙ (ap (λ (t : Trace). t then trace_in (writes (close []))) (entries_tie (node_course b v d) (node_form (view_of b v) d) k es)
           ∙ ap (λ (t : Trace). entry_forms (node_form (view_of b v) d) (map (entry_shown v.reader b) es) then t) (trace_writes (close [])))))))
 
-      below : (i : Inode) → (inode_of b v id 0).answer ≡ got i → ((n : ℕ) → trace_in (node_course b v d n) ≡ node_form (view_of b v) d n) →
+      below : (i : Inode) → (inode_of b v id 0).answer ≡ Ok i → ((n : ℕ) → trace_in (node_course b v d n) ≡ node_form (view_of b v) d n) →
           trace_in (writes (node_line (inode_shown v.reader b i) []) and_then readings (attributes_of b v i.id 0) λ l. readings (entries_of b v i.id 0) λ es. after i l es)
           ≡ (says (node_line (inode_shown v.reader b i) []) then reading (attributes_answer b v i.id) λ l. reading (entries_answer b v i.id) λ es. seen (inode_shown v.reader b i) l es)
       below i h k =

@@ -6,26 +6,23 @@ ghost use Rattle.lines.specs.Lines.{close};
 ghost use Rattle.forms.specs.Course.{writes, entry_course, node_course};
 ghost use Rattle.forms.specs.Inner.{stand_of, go};
 
-use calls::Progress;
 use cursor::next;
 use error::Refusal;
-use extents::Ruling;
 use forms::{put_head, read, refuse};
-use inode_record::InodeRead;
 use lines::put_entry_line;
-use lists::{EntryIn, entry_in, inode_on, inode_way, list_on, search};
+use lists::{Seen, entry_in, inode_on, inode_way, list_on, search};
+use lookup::Counted;
 use records::Entry;
-use streams::Settled;
-use text::{Position, put_all};
+use text::put_all;
 use volume::Volume;
 
 // The end of a form.
-fn put_close(out: &mut [u8], room: usize, p: Progress) -> Progress
+fn put_close(out: &mut [u8], room: usize, p: Counted<usize>) -> Counted<usize>
     ensures { stand_of result out.new ≡ go room (writes (close [])) (stand_of p out.old) }
 {
-    let at = p.at;
-    Progress {
-        at: put_all(out, room, at, b")\n"),
+    let at = p.answer;
+    Counted {
+        answer: put_all(out, room, at, b")\n"),
         nodes: p.nodes,
     }
 }
@@ -35,40 +32,40 @@ fn put_close(out: &mut [u8], room: usize, p: Progress) -> Progress
 pub fn put_node(
     out: &mut [u8],
     room: usize,
-    p: Progress,
+    p: Counted<usize>,
     image: &[u8],
     v: Volume,
     id: u64,
     levels: u32,
-) -> Progress
+) -> Counted<usize>
     ensures { stand_of result out.new ≡ go room (node_course image.now v levels id) (stand_of p out.old) }
 {
     if levels == 0 {
-        let at = p.at;
-        return Progress {
-            at: refuse(at, Refusal::TooDeep),
+        let at = p.answer;
+        return Counted {
+            answer: refuse(at, Refusal::TooDeep),
             nodes: p.nodes,
         };
     }
     let way = inode_way(image, v, id, 0);
     let found = inode_on(image, v, id, way, 0);
-    let inode = found.inode;
+    let inode = found.answer;
     match inode {
-        InodeRead::No(w) => read(
+        Err(w) => read(
             p,
-            Settled {
-                ruling: Ruling::No(w),
+            Counted {
+                answer: Err(w),
                 nodes: found.nodes,
             },
         ),
-        InodeRead::Got(i) => {
+        Ok(i) => {
             let q = search(v, id, 9);
             let keys = q.keys;
             let mut s = list_on(image, v, id, 9, way, 0);
             let a = read(
                 p,
-                Settled {
-                    ruling: Ruling::Fine,
+                Counted {
+                    answer: Ok(()),
                     nodes: found.nodes,
                 },
             );
@@ -77,14 +74,14 @@ pub fn put_node(
             loop {
                 let reached = s.reached;
                 match entry_in(image, keys, reached, k) {
-                    EntryIn::Over => return put_close(out, room, o),
-                    EntryIn::No(_) => return put_close(out, room, o),
-                    EntryIn::Passed => {
+                    Seen::Over => return put_close(out, room, o),
+                    Seen::Refused(_) => return put_close(out, room, o),
+                    Seen::Passed => {
                         let c = s.path;
                         s = next(image, q, c, s.level, s.nodes);
                         k = s.from;
                     }
-                    EntryIn::At(e, after) => {
+                    Seen::Element(e, after) => {
                         o = put_entry(out, room, o, image, v, e, levels - 1);
                         k = after;
                     }
@@ -99,22 +96,22 @@ pub fn put_node(
 fn put_entry(
     out: &mut [u8],
     room: usize,
-    p: Progress,
+    p: Counted<usize>,
     image: &[u8],
     v: Volume,
     e: Entry,
     levels: u32,
-) -> Progress
+) -> Counted<usize>
     ensures { stand_of result out.new ≡ go room (entry_course (node_course image.now v levels) image.now v e) (stand_of p out.old) }
 {
-    let at = p.at;
+    let at = p.answer;
     let reader = v.reader;
-    let a = Progress {
-        at: put_entry_line(out, room, at, image, reader, e),
+    let a = Counted {
+        answer: put_entry_line(out, room, at, image, reader, e),
         nodes: p.nodes,
     };
-    let line = a.at;
-    if let Position::No(_) = line {
+    let line = a.answer;
+    if let Err(_) = line {
         return a;
     }
     let b = put_node(out, room, a, image, v, e.file_id, levels);

@@ -7,7 +7,7 @@ use lib.Count.{ones}
 use lib.ListN.{length}
 use native.Mathlib.Nat.{zero-add}
 use native.Mathlib.Omega.{arith}
-use Rattle.error.specs.Answer.{Answer, got, no, pick}
+use Rattle.error.specs.Answer.{Answer, Ok, Err, pick}
 use Rattle.error.specs.declared.Refusal.{Refusal}
 use Rattle.error.specs.declared.Refusal.TheVariants.{Io, NotFound}
 use Rattle.error.proofs.Laws.{at_most_lem, same, other, picked, le_cases, eq_cases, bound}
@@ -21,37 +21,37 @@ use Rattle.geometry.specs.declared.Geometry.{Geometry}
 use Rattle.checkpoints.proofs.Candidate.{magic_means, magic_if}
 use Rattle.nx.specs.LatestCheckpoint.{block_zero, BlockZeroRead, AreaRead}
 
-pub never : {A B : Type 0} {w : Refusal} {y : A} → no w ≡ got y → B
+pub never : {A B : Type 0} {w : Refusal} {y : A} → ◌≡◌ {A = Answer _} (Err w) (Ok y) → B
 never e = absurd (let z : ◌≡◌ {A = ℕ} 0 1 = cc in omega arith)
 
-pub same_inside : {A : Type 0} {x y : A} → got x ≡ got y → x ≡ y
+pub same_inside : {A : Type 0} {x y : A} → ◌≡◌ {A = Answer _} (Ok x) (Ok y) → x ≡ y
 same_inside e = cc
 
 -- both tests of an answer that was got
-pub held : {A : Type 0} (d : Bool) (x : Answer A) (w : Refusal) (y : A) → pick d x (no w) ≡ got y → (d ≡ true) × (x ≡ got y)
+pub held : {A : Type 0} (d : Bool) (x : Answer A) (w : Refusal) (y : A) → pick d x (Err w) ≡ Ok y → (d ≡ true) × (x ≡ Ok y)
 held true x w y e = (refl, e)
 held false x w y e = never e
 
 -- a number that lies within the bytes is read
-pub number_read : (n : ℕ) (b : List ℕ) (off : ℕ) → off + n ≤ length b → number_at n b off ≡ got (little n b off)
+pub number_read : (n : ℕ) (b : List ℕ) (off : ℕ) → off + n ≤ length b → number_at n b off ≡ Ok (little n b off)
 unfolding number_at
 number_read n b off h = sym (at_most_lem _ _ _ _ _ h refl)
 
-pub number_got : (n : ℕ) (b : List ℕ) (off x : ℕ) → number_at n b off ≡ got x → (off + n ≤ length b) × (x ≡ little n b off)
+pub number_got : (n : ℕ) (b : List ℕ) (off x : ℕ) → number_at n b off ≡ Ok x → (off + n ≤ length b) × (x ≡ little n b off)
 unfolding number_at
 number_got n b off x =
-    le_cases (λ (a : Answer ℕ). a ≡ got x → (off + n ≤ length b) × (x ≡ little n b off)) (λ h e. (h, sym (same_inside e))) (λ h e. never e)
+    le_cases (λ (a : Answer ℕ). a ≡ Ok x → (off + n ≤ length b) × (x ≡ little n b off)) (λ h e. (h, sym (same_inside e))) (λ h e. never e)
 
-pub span_got : (w : Refusal) (size off len : ℕ) (s : Span) → span_at w size off len ≡ got s → (off + len ≤ size) × (s ≡ record { start = off; len = len })
+pub span_got : (w : Refusal) (size off len : ℕ) (s : Span) → span_at w size off len ≡ Ok s → (off + len ≤ size) × (s ≡ record { start = off; len = len })
 unfolding span_at
 span_got w size off len s =
-    le_cases (λ (a : Answer Span). a ≡ got s → (off + len ≤ size) × (s ≡ record { start = off; len = len })) (λ h e. (h, sym (same_inside e))) (λ h e. never e)
+    le_cases (λ (a : Answer Span). a ≡ Ok s → (off + len ≤ size) × (s ≡ record { start = off; len = len })) (λ h e. (h, sym (same_inside e))) (λ h e. never e)
 
-pub fitting_got : (n x : ℕ) → fitting n ≡ got x → (n ≤ 2 ^ 64 - 1) × (x ≡ n)
-fitting_got n x = le_cases (λ (y : Answer ℕ). y ≡ got x → (n ≤ 2 ^ 64 - 1) × (x ≡ n)) (λ h e. (h, sym (same_inside e))) (λ h e. never e)
+pub fitting_got : (n x : ℕ) → fitting n ≡ Ok x → (n ≤ 2 ^ 64 - 1) × (x ≡ n)
+fitting_got n x = le_cases (λ (y : Answer ℕ). y ≡ Ok x → (n ≤ 2 ^ 64 - 1) × (x ≡ n)) (λ h e. (h, sym (same_inside e))) (λ h e. never e)
 
 -- a number read in the first bytes of an image
-at_front : (n : ℕ) (image : List ℕ) (len off x : ℕ) (s : Span) → s ≡ record { start = 0; len = len } → off + n ≤ len → number_at n (part_of image s) off ≡ got x → little n image off ≡ x
+at_front : (n : ℕ) (image : List ℕ) (len off x : ℕ) (s : Span) → s ≡ record { start = 0; len = len } → off + n ≤ len → number_at n (part_of image s) off ≡ Ok x → little n image off ≡ x
 at_front n image len off x s p h e =
     let q : little n (part_of image s) off ≡ little n image off = rw p (part_little n image _ off h ∙ rw zero-add refl) in
     sym q ∙ sym (number_got n (part_of image s) off x e).1
@@ -61,12 +61,12 @@ at_front n image len off x s p h e =
 abbrev pub SizeOk : ℕ → Type 0
 SizeOk n = (4096 ≤ n) × (n ≤ 65536) × (ones n ≡ 1)
 
-size_taken : (n size : ℕ) → size_ok n ≡ got size → SizeOk n × (n ≡ size)
+size_taken : (n size : ℕ) → size_ok n ≡ Ok size → SizeOk n × (n ≡ size)
 unfolding size_ok
 size_taken n size =
-    le_cases (λ (a : Answer ℕ). a ≡ got size → SizeOk n × (n ≡ size))
-    (λ h. le_cases (λ (a : Answer ℕ). a ≡ got size → SizeOk n × (n ≡ size))
-    (λ k. eq_cases (λ (a : Answer ℕ). a ≡ got size → SizeOk n × (n ≡ size)) (λ u e. ((h, k, u), same_inside e)) (λ u e. never e))
+    le_cases (λ (a : Answer ℕ). a ≡ Ok size → SizeOk n × (n ≡ size))
+    (λ h. le_cases (λ (a : Answer ℕ). a ≡ Ok size → SizeOk n × (n ≡ size))
+    (λ k. eq_cases (λ (a : Answer ℕ). a ≡ Ok size → SizeOk n × (n ≡ size)) (λ u e. ((h, k, u), same_inside e)) (λ u e. never e))
     (λ k e. never e))
     (λ h e. never e)
 
@@ -76,7 +76,7 @@ pub record SizeRead (image : List ℕ) (size : ℕ) : Type 0 where
   pub field : little 4 image 36 ≡ size
   pub taken : SizeOk size
 
-size_read : (image : List ℕ) (size : ℕ) → size_at image ≡ got size → SizeRead image size
+size_read : (image : List ℕ) (size : ℕ) → size_at image ≡ Ok size → SizeRead image size
 unfolding size_at size_in
 size_read image size e =
     let s = bound (span_at Io (length image) 0 4096) _ size e in
@@ -97,7 +97,7 @@ pub record ZeroRead (image : List ℕ) (g : Geometry) : Type 0 where
   pub no_tree : g.ring / 2 ^ 31 ≡ 1 → ⊥
   pub fields : block_zero image ≡ g
 
-pub zero_read : (image : List ℕ) (g : Geometry) → geometry_at image ≡ got g → ZeroRead image g
+pub zero_read : (image : List ℕ) (g : Geometry) → geometry_at image ≡ Ok g → ZeroRead image g
 unfolding geometry_at geometry_in ring_of block_zero
 zero_read image g e =
     let z = bound (size_at image) _ g e in
@@ -111,7 +111,7 @@ zero_read image g e =
     let big : 4096 ≤ z.0 = f.taken.0 in
     let own : Geometry = record { reader = record { block_size = z.0; block_count = c.0 }; ring = n.0; base = d.0 } in
     let q : (n.0 / 2 ^ 31 ≡ 1 → ⊥) × (own ≡ g) =
-    eq_cases (λ (a : Answer Geometry). a ≡ got g → (n.0 / 2 ^ 31 ≡ 1 → ⊥) × (own ≡ g)) (λ h t. never t) (λ h t. (h, same_inside t)) d.1.1 in
+    eq_cases (λ (a : Answer Geometry). a ≡ Ok g → (n.0 / 2 ^ 31 ≡ 1 → ⊥) × (own ≡ g)) (λ h t. never t) (λ h t. (h, same_inside t)) d.1.1 in
     let k : z.0 ≡ g.reader.block_size = ap (λ (x : Geometry). x.reader.block_size) q.1 in
     let o : n.0 ≡ g.ring = ap (λ (x : Geometry). x.ring) q.1 in
     record {
@@ -131,7 +131,7 @@ pub record AreaLies (size : ℕ) (g : Geometry) (start : ℕ) : Type 0 where
   pub product : start ≡ g.base * g.reader.block_size
   pub area : g.base * g.reader.block_size + g.ring * g.reader.block_size ≤ size
 
-pub area_got : (size : ℕ) (g : Geometry) (start : ℕ) → area_at size g ≡ got start → AreaLies size g start
+pub area_got : (size : ℕ) (g : Geometry) (start : ℕ) → area_at size g ≡ Ok start → AreaLies size g start
 unfolding area_at product_of
 area_got size g start e =
     let p = bound (product_of g.base g.reader.block_size) _ start e in
@@ -171,22 +171,22 @@ module _ (image : List ℕ) (r : BlockZeroRead image) where
   abbrev front : ℕ → Span
   front len = record { start = 0; len = len }
 
-  front_span : (len : ℕ) → len ≤ length image → span_at Io (length image) 0 len ≡ got (front len)
+  front_span : (len : ℕ) → len ≤ length image → span_at Io (length image) 0 len ≡ Ok (front len)
   unfolding span_at
   front_span len h = sym (at_most_lem _ _ _ _ _ (omega arith) refl)
 
-  front_number : (n len off : ℕ) → len ≤ length image → off + n ≤ len → number_at n (part_of image (front len)) off ≡ got (little n image off)
+  front_number : (n len off : ℕ) → len ≤ length image → off + n ≤ len → number_at n (part_of image (front len)) off ≡ Ok (little n image off)
   front_number n len off h k = part_number n image (front len) off (omega arith) k ∙ rw zero-add (number_read n image off (omega arith))
 
-  size_if : size_at image ≡ got (little 4 image 36)
+  size_if : size_at image ≡ Ok (little 4 image 36)
   unfolding size_at size_in size_ok
   size_if =
       let h = r.first_bytes in
-      let m : has_magic (part_of image (front 4096)) ≡ true = magic_if (part_of image (front 4096)) (front_number 4 4096 32 h (omega arith) ∙ ap got r.magic) in
+      let m : has_magic (part_of image (front 4096)) ≡ true = magic_if (part_of image (front 4096)) (front_number 4 4096 32 h (omega arith) ∙ ap Ok r.magic) in
       rw (front_span 4096 h, front_number 4 4096 36 h (omega arith))
       (sym (picked _ _ _ _ m (at_most_lem _ _ _ _ _ r.size_from (at_most_lem _ _ _ _ _ r.size_to (same _ _ _ _ _ r.one_bit refl)))))
 
-  geometry_if : geometry_at image ≡ got (block_zero image)
+  geometry_if : geometry_at image ≡ Ok (block_zero image)
   unfolding geometry_at geometry_in ring_of block_zero
   geometry_if =
       let n = little 4 image 36 in
@@ -195,11 +195,11 @@ module _ (image : List ℕ) (r : BlockZeroRead image) where
       rw (size_if, front_span n h, front_number 8 n 40 h (omega arith), front_number 4 n 104 h (omega arith), front_number 8 n 112 h (omega arith))
       (sym (other _ _ _ _ _ r.no_tree refl))
 
-  area_if : area_at (length image) (block_zero image) ≡ got (little 8 image 112 * little 4 image 36)
+  area_if : area_at (length image) (block_zero image) ≡ Ok (little 8 image 112 * little 4 image 36)
   unfolding area_at product_of span_at block_zero
   area_if =
-      let p : product_of (little 8 image 112) (little 4 image 36) ≡ got (little 8 image 112 * little 4 image 36) = sym (at_most_lem _ _ _ _ _ r.product_fits refl) in
-      let s : span_at Io (length image) (little 8 image 112 * little 4 image 36) (little 4 image 104 * little 4 image 36) ≡ got _ = sym (at_most_lem _ _ _ _ _ r.area refl) in
+      let p : product_of (little 8 image 112) (little 4 image 36) ≡ Ok (little 8 image 112 * little 4 image 36) = sym (at_most_lem _ _ _ _ _ r.product_fits refl) in
+      let s : span_at Io (length image) (little 8 image 112 * little 4 image 36) (little 4 image 104 * little 4 image 36) ≡ Ok _ = sym (at_most_lem _ _ _ _ _ r.area refl) in
       rw (p, s)
 
   pub read_if : AreaRead image

@@ -2,18 +2,19 @@
 use Prim.Native.Nat.{ℕ, ◌+◌, ◌-◌, ◌*◌, ◌/◌, ◌%◌, ◌^◌, ◌≤◌, ◌<◌}
 use mathlib.Core.Path.{◌≡◌, refl, sym, ap, ◌∙◌}
 use mathlib.Core.List.{List}
-use mathlib.Core.Option.{Option, none, some}
+use Rattle.std.specs.Prelude.{Option, None, Some}
 use lib.ListN.{length}
 use native.Mathlib.Nat.{add-mul, mul-le-mul_right}
 use native.Mathlib.Omega.{arith}
-use Rattle.error.specs.Answer.{Answer, got, no, ◌>>=◌, if_eq}
+use Rattle.error.specs.Answer.{Answer, Ok, Err, ◌>>=◌, if_eq}
 use Rattle.error.specs.declared.Refusal.TheVariants.{Unsupported}
 use Rattle.error.proofs.Laws.{at_most_lem, same, other, eq_cases}
 use Rattle.byte_fields.specs.Number.{little}
 use Rattle.byte_fields.proofs.Laws.{part_length}
 use Rattle.obj.specs.Header.{kind_of}
 use Rattle.obj.specs.declared.header.ObjHeader.{ObjHeader}
-use Rattle.lookup.specs.Counted.{Counted, from}
+use Rattle.lookup.specs.declared.counted.Counted.{Counted}
+use Rattle.lookup.specs.Counted.{from}
 use Rattle.geometry.specs.BlockZero.{geometry_at, area_at}
 use Rattle.geometry.specs.declared.Geometry.{Geometry}
 use Rattle.checkpoints.specs.Superblock.{superblock_at}
@@ -36,7 +37,7 @@ after_test m n s x y f = eq_cases (λ (a : Answer _). from s a f ≡ if_eq m n (
 
 pub supported_opened : (image : List ℕ) (g : Geometry) (sb : Superblock) → from 0 (supported sb) (λ s. mapped_of image g.reader s) ≡ opened_as image g sb
 unfolding supported mapped_of opened_as
-supported_opened image g sb = after_test (sb.incompat % 2) 1 0 _ _ _ ∙ rw (after_test (sb.incompat / 256 % 2) 1 0 (no Unsupported) (got sb) (λ s. mapped_of image g.reader s))
+supported_opened image g sb = after_test (sb.incompat % 2) 1 0 _ _ _ ∙ rw (after_test (sb.incompat / 256 % 2) 1 0 (Err Unsupported) (Ok sb) (λ s. mapped_of image g.reader s))
 
 module _ (image : List ℕ) (g : Geometry) (big : 4096 ≤ g.reader.block_size) (lies : g.base * size image g + g.ring * size image g ≤ length image) where
   -- ---- a block is accepted exactly if it is a candidate
@@ -49,7 +50,7 @@ module _ (image : List ℕ) (g : Geometry) (big : 4096 ≤ g.reader.block_size) 
     long : length (ring_block image g i) ≡ size image g
     long = part_length image (place_of image g (g.base + i)) ends
 
-    read : superblock_at (ring_block image g i) (place_of image g (g.base + i)) ≡ some (superblock_of image g i)
+    read : superblock_at (ring_block image g i) (place_of image g (g.base + i)) ≡ Some (superblock_of image g i)
     read =
         let b = ring_block image g i in
         let l = long in
@@ -57,7 +58,7 @@ module _ (image : List ℕ) (g : Geometry) (big : 4096 ≤ g.reader.block_size) 
         (number_read 4 b 136 (omega arith)) (number_read 4 b 140 (omega arith)) (number_read 8 b 160 (omega arith)) (number_read 4 b 180 (omega arith))
 
     abbrev pub Accepted : Superblock → Type 0
-    Accepted sb = accepted_at g.reader image g.ring (place_of image g (g.base + i)) ≡ some sb
+    Accepted sb = accepted_at g.reader image g.ring (place_of image g (g.base + i)) ≡ Some sb
 
     fit : maps_fit g.reader image (superblock_of image g i).descriptors (xid_of image g i) g.ring ≡ maps_from g.reader image (superblock_of image g i).descriptors (xid_of image g i) g.ring (little 4 (ring_block image g i) 140 - 1) 0
     unfolding maps_fit
@@ -89,7 +90,7 @@ module _ (image : List ℕ) (g : Geometry) (big : 4096 ≤ g.reader.block_size) 
         let place = place_of image g (g.base + i) in
         let l = long in
         accepted_candidate g.reader image g.ring place (superblock_of image g i)
-        (candidate_if b place (superblock_of image g i) (header_of b) (header_read b (omega arith)) c.kind (magic_if b (number_read 4 b 32 (omega arith) ∙ ap got c.magic)) c.checksum read)
+        (candidate_if b place (superblock_of image g i) (header_of b) (header_read b (omega arith)) c.kind (magic_if b (number_read 4 b 32 (omega arith) ∙ ap Ok c.magic)) c.checksum read)
         (fit ∙ maps_if image g i big (little 4 b 140 - 1) c.maps)
 
   -- ---- the latest
@@ -99,7 +100,7 @@ module _ (image : List ℕ) (g : Geometry) (big : 4096 ≤ g.reader.block_size) 
   pub same_place : (j : ℕ) → block_place g.reader (g.base * size image g) j ≡ place_of image g (g.base + j)
   same_place j = rw add-mul
 
-  latest_means : (sb : Superblock) → taken ≡ some sb → (i : ℕ) × Latest image g i × (superblock_of image g i ≡ sb)
+  latest_means : (sb : Superblock) → taken ≡ Some sb → (i : ℕ) × Latest image g i × (superblock_of image g i ≡ sb)
   unfolding taken
   latest_means sb e =
       let l = latest_of g.reader image (g.base * size image g) g.ring g.ring 0 sb e in
@@ -116,7 +117,7 @@ module _ (image : List ℕ) (g : Geometry) (big : 4096 ≤ g.reader.block_size) 
         a.0,
       )
 
-  none_means : taken ≡ none → (j : ℕ) → Candidate image g j → ⊥
+  none_means : taken ≡ None → (j : ℕ) → Candidate image g j → ⊥
   unfolding taken
   none_means e j c =
       let n = none_of g.reader image (g.base * size image g) g.ring g.ring 0 e in
@@ -127,12 +128,12 @@ module _ (image : List ℕ) (g : Geometry) (big : 4096 ≤ g.reader.block_size) 
   opens e = of taken refl
     where
       of : (a : Option Superblock) → taken ≡ a → Opens image g
-      of (some sb) t =
+      of (Some sb) t =
           let l = latest_means sb t in
           at_latest_lem l.0 l.1 (e ∙ rw t (supported_opened image g sb ∙ ap (λ (s : Superblock). opened_as image g s) (sym l.2)))
-      of none t = no_candidate (none_means t) (e ∙ rw t)
+      of None t = no_candidate (none_means t) (e ∙ rw t)
 
-  pub opens_so : length image ≤ 2 ^ 34 → (start : ℕ) → geometry_at image ≡ got g → area_at (length image) g ≡ got start → start ≡ g.base * size image g → Opens image g
+  pub opens_so : length image ≤ 2 ^ 34 → (start : ℕ) → geometry_at image ≡ Ok g → area_at (length image) g ≡ Ok start → start ≡ g.base * size image g → Opens image g
   unfolding open_at container_of chosen_of checkpoint_of taken
   opens_so h start p a q = opens (sym (at_most_lem _ _ _ _ _ h refl) ∙ rw (p, a, q))
 

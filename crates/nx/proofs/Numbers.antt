@@ -2,15 +2,16 @@
 use Prim.Native.Nat.{ℕ, zero, suc, ◌+◌, ◌*◌, ◌/◌, ◌%◌, ◌^◌, ◌≤◌, ◌<◌, max, min}
 use mathlib.Core.Path.{◌≡◌, refl, sym, ap, subst, ◌∙◌}
 use mathlib.Core.List.{List, [], ◌∷◌}
-use mathlib.Core.Option.{Option, none, some}
+use Rattle.std.specs.Prelude.{Option, None, Some}
 use lib.ListN.{length}
 use native.Mathlib.Decide.{dec_le}
 use native.Mathlib.Omega.{arith}
-use Rattle.error.specs.Answer.{Answer, got, no, ◌>>=◌, if_eq}
+use Rattle.error.specs.Answer.{Answer, Ok, Err, ◌>>=◌, if_eq}
 use Rattle.error.specs.declared.Refusal.TheVariants.{Unsupported, ImageTooLarge}
 use Rattle.error.proofs.Laws.{got_is, bound, at_most_lem, above, eq_cases}
 use Rattle.obj.specs.declared.reader.Reader.{Reader}
-use Rattle.lookup.specs.Counted.{Counted, after, from}
+use Rattle.lookup.specs.declared.counted.Counted.{Counted}
+use Rattle.lookup.specs.Counted.{after, from}
 use Rattle.omap.specs.Load.{map_at}
 use Rattle.omap.proofs.Depth.{from_got, map_number}
 use Rattle.geometry.specs.BlockZero.{geometry_at, area_at}
@@ -91,13 +92,13 @@ module _ (r : Reader) (image : List ℕ) (start ring : ℕ) where
   stands zero k j o h t a = absurd (omega arith)
   stands (suc n) k j o h t a = split r image start ring n k j o h t a (λ y q. first (accepted_at r image ring (block_place r start k)) y) (λ u v. rest (accepted_at r image ring (block_place r start k)) (stands n (k + 1) j o u v a))
     where
-      first : (x : Option Superblock) → x ≡ some o → 0 < times o.xid (kept x (numbers n (k + 1)))
-      first (some s) e = let q : s.xid ≡ o.xid = ap (λ (u : Superblock). u.xid) (same_some e) in eq_cases (λ (m : ℕ). 0 < m + times o.xid (numbers n (k + 1))) (λ h. omega arith) (λ h. absurd (h q))
-      first none e = nothing e
+      first : (x : Option Superblock) → x ≡ Some o → 0 < times o.xid (kept x (numbers n (k + 1)))
+      first (Some s) e = let q : s.xid ≡ o.xid = ap (λ (u : Superblock). u.xid) (same_some e) in eq_cases (λ (m : ℕ). 0 < m + times o.xid (numbers n (k + 1))) (λ h. omega arith) (λ h. absurd (h q))
+      first None e = nothing e
 
       rest : (x : Option Superblock) → 0 < times o.xid (numbers n (k + 1)) → 0 < times o.xid (kept x (numbers n (k + 1)))
-      rest (some s) p = omega arith
-      rest none p = p
+      rest (Some s) p = omega arith
+      rest None p = p
 
   -- and each of them is an accepted block's
   abbrev Block : ℕ → ℕ → ℕ → Type 0
@@ -112,14 +113,14 @@ module _ (r : Reader) (image : List ℕ) (start ring : ℕ) where
       later q = (q.0, q.1, omega (arith, q.2), omega (arith, q.3), q.4, q.5)
 
       of : (0 < times z (numbers n (k + 1)) → Block z n (k + 1)) → (x : Option Superblock) → accepted_at r image ring (block_place r start k) ≡ x → 0 < times z (kept x (numbers n (k + 1))) → Block z (suc n) k
-      of on (some s) e =
+      of on (Some s) e =
           eq_cases (λ (m : ℕ). 0 < m + times z (numbers n (k + 1)) → Block z (suc n) k)
           (λ q t. (k, s, omega arith, omega arith, e, q)) (λ q t. later (on (omega arith)))
-      of on none e = λ p. later (on p)
+      of on None e = λ p. later (on p)
 
   -- the greatest of them is the latest's, and the earliest of that number is the latest
   first_latest : (n k x : ℕ) (l : List ℕ) → descending (numbers n k) ≡ x ∷ l
-      → (sb : Superblock) × (latest_in r image start ring n k ≡ some sb) × (numbered_in r image start ring x n k ≡ some sb)
+      → (sb : Superblock) × (latest_in r image start ring n k ≡ Some sb) × (numbered_in r image start ring x n k ≡ Some sb)
   first_latest n k x l e = latest (latest_in r image start ring n k) refl
     where
       greatest : (j : ℕ) (o : Superblock) → k ≤ j → j < k + n → Accepted r image start ring j o → o.xid ≤ x
@@ -131,8 +132,8 @@ module _ (r : Reader) (image : List ℕ) (start ring : ℕ) where
       there : Block x n k
       there = from_block x n k (rw (← times_descending x (numbers n k), e) (first_stands x l))
 
-      numbered : (sb : Superblock) → latest_in r image start ring n k ≡ some sb → (a : Option Superblock) → numbered_in r image start ring x n k ≡ a → a ≡ some sb
-      numbered sb q (some s) p =
+      numbered : (sb : Superblock) → latest_in r image start ring n k ≡ Some sb → (a : Option Superblock) → numbered_in r image start ring x n k ≡ a → a ≡ Some sb
+      numbered sb q (Some s) p =
           let t = latest_of r image start ring n k sb q in
           let u = numbered_of_lem r image start ring x n k s p in
           let w = there in
@@ -141,15 +142,15 @@ module _ (r : Reader) (image : List ℕ) (start ring : ℕ) where
           let d = u.earliest t.own sb t.from t.before t.accepted b in
           let m : u.own ≡ t.own = omega arith in
           sym (rw m at u.accepted) ∙ t.accepted
-      numbered sb q none p =
+      numbered sb q None p =
           let t = latest_of r image start ring n k sb q in
           let w = there in
           let b : sb.xid ≡ x = (let lo = greatest t.own sb t.from t.before t.accepted in let hi = t.greatest w.0 w.1 w.2 w.3 w.4 in omega (arith, w.5)) in
           absurd (unnumbered_of r image start ring x n k p t.own sb t.from t.before t.accepted b)
 
-      latest : (a : Option Superblock) → latest_in r image start ring n k ≡ a → (sb : Superblock) × (latest_in r image start ring n k ≡ some sb) × (numbered_in r image start ring x n k ≡ some sb)
-      latest (some sb) q = (sb, q, numbered sb q (numbered_in r image start ring x n k) refl)
-      latest none q = let w = there in absurd (none_of r image start ring n k q w.0 w.1 w.2 w.3 w.4)
+      latest : (a : Option Superblock) → latest_in r image start ring n k ≡ a → (sb : Superblock) × (latest_in r image start ring n k ≡ Some sb) × (numbered_in r image start ring x n k ≡ Some sb)
+      latest (Some sb) q = (sb, q, numbered sb q (numbered_in r image start ring x n k) refl)
+      latest None q = let w = there in absurd (none_of r image start ring n k q w.0 w.1 w.2 w.3 w.4)
 
 -- ---- over the bytes of an image
 module _ (image : List ℕ) (g : Geometry) (big : 4096 ≤ g.reader.block_size) (lies : g.base * size image g + g.ring * size image g ≤ length image) where
@@ -177,13 +178,13 @@ module _ (image : List ℕ) (g : Geometry) (big : 4096 ≤ g.reader.block_size) 
 
       of : (a : Option Superblock) → accepted_at g.reader image g.ring (block_place g.reader (g.base * size image g) k) ≡ a → HowMany (Numbered image g x) (k + 1) n (times x rest)
           → HowMany (Numbered image g x) k (suc n) (times x (kept a rest))
-      of (some s) e p =
+      of (Some s) e p =
           let c = candidate_at k s (omega arith) e in
           let y : xid_of image g k ≡ s.xid = ap (λ (u : Superblock). u.xid) c.1 in
           eq_cases (λ (m : ℕ). HowMany (Numbered image g x) k (suc n) (m + times x rest))
           (λ q. let t : 1 + times x rest ≡ suc (times x rest) = omega arith in rw t (one (c.0, y ∙ q) p))
           (λ q. let t : 0 + times x rest ≡ times x rest = omega arith in rw t (not_one (λ z. q (sym y ∙ z.1)) p))
-      of none e p = not_one (λ z. nothing (sym e ∙ accepted_at_lem k z.0)) p
+      of None e p = not_one (λ z. nothing (sym e ∙ accepted_at_lem k z.0)) p
 
   lists : numbers_at image ≡ some_numbers (descending all) → Lists image g
   unfolding times
@@ -200,13 +201,13 @@ module _ (image : List ℕ) (g : Geometry) (big : 4096 ≤ g.reader.block_size) 
   opens_by x e = of (numbered_in g.reader image (g.base * size image g) g.ring x g.ring 0) refl
     where
       of : (a : Option Superblock) → numbered_in g.reader image (g.base * size image g) g.ring x g.ring 0 ≡ a → OpensBy image g x
-      of (some sb) t =
+      of (Some sb) t =
           let n = numbered_of_lem g.reader image (g.base * size image g) g.ring x g.ring 0 sb t in
           let c = candidate_at n.own sb (omega (arith, n.before)) n.accepted in
           let y : xid_of image g n.own ≡ x = ap (λ (u : Superblock). u.xid) c.1 ∙ n.number in
           at_number_lem n.own (c.0, y) (λ j z. n.earliest j (superblock_of image g j) (omega arith) (omega (arith, z.0.inside)) (accepted_at_lem j z.0) z.1)
           (e ∙ rw t (at-bytes.supported_opened image g sb ∙ ap (λ (s : Superblock). opened_as image g s) (sym c.1)))
-      of none t =
+      of None t =
           no_number (λ i z. unnumbered_of g.reader image (g.base * size image g) g.ring x g.ring 0 t i (superblock_of image g i) (omega arith) (omega (arith, z.0.inside)) (accepted_at_lem i z.0) z.1)
           (e ∙ rw t)
 
@@ -216,7 +217,7 @@ module _ (image : List ℕ) where
   unfolding open_at
   open_within c h = sym (at_most_lem _ _ _ _ _ h refl)
 
-  open_beyond : (c : Choice) → 2 ^ 34 < length image → open_at c image ≡ after 0 (no ImageTooLarge)
+  open_beyond : (c : Choice) → 2 ^ 34 < length image → open_at c image ≡ after 0 (Err ImageTooLarge)
   unfolding open_at
   open_beyond c h = sym (above _ _ _ _ _ h refl)
 
@@ -224,7 +225,7 @@ module _ (image : List ℕ) where
   unfolding numbers_at
   list_within h = sym (at_most_lem _ _ _ _ _ h refl)
 
-  list_beyond : 2 ^ 34 < length image → numbers_at image ≡ no ImageTooLarge
+  list_beyond : 2 ^ 34 < length image → numbers_at image ≡ Err ImageTooLarge
   unfolding numbers_at
   list_beyond h = sym (above _ _ _ _ _ h refl)
 
@@ -232,9 +233,9 @@ module _ (image : List ℕ) where
   unfolding container_of chosen_of checkpoint_of numbered_of numbers_of
   refused_alike f = sized (dec_le (length image) (2 ^ 34))
     where
-      area : length image ≤ 2 ^ 34 → (g : Geometry) → geometry_at image ≡ got g → (a : Answer ℕ) → area_at (length image) g ≡ a → RefusedAlike image
-      area h g p (got s) q = absurd (f (h, (g, s, p, q)))
-      area h g p (no e) q = record {
+      area : length image ≤ 2 ^ 34 → (g : Geometry) → geometry_at image ≡ Ok g → (a : Answer ℕ) → area_at (length image) g ≡ a → RefusedAlike image
+      area h g p (Ok s) q = absurd (f (h, (g, s, p, q)))
+      area h g p (Err e) q = record {
         why = e;
         latest = open_within choice.Latest h ∙ rw (p, q);
         by_number = λ x. open_within (choice.Number x) h ∙ rw (p, q);
@@ -242,8 +243,8 @@ module _ (image : List ℕ) where
       }
 
       zero : length image ≤ 2 ^ 34 → (a : Answer Geometry) → geometry_at image ≡ a → RefusedAlike image
-      zero h (got g) p = area h g p (area_at (length image) g) refl
-      zero h (no e) p = record {
+      zero h (Ok g) p = area h g p (area_at (length image) g) refl
+      zero h (Err e) p = record {
         why = e;
         latest = open_within choice.Latest h ∙ rw p;
         by_number = λ x. open_within (choice.Number x) h ∙ rw p;
@@ -259,40 +260,40 @@ module _ (image : List ℕ) where
         list = list_beyond (omega arith);
       }
 
-  first_opens : (x : ℕ) (l : List ℕ) → numbers_at image ≡ got (x ∷ l) → open_at (choice.Number x) image ≡ open_at choice.Latest image
+  first_opens : (x : ℕ) (l : List ℕ) → numbers_at image ≡ Ok (x ∷ l) → open_at (choice.Number x) image ≡ open_at choice.Latest image
   unfolding container_of chosen_of checkpoint_of numbered_of numbers_of
   first_opens x l e = sized (dec_le (length image) (2 ^ 34))
     where
-      some_list : (a : List ℕ) → some_numbers a ≡ got (x ∷ l) → a ≡ x ∷ l
+      some_list : (a : List ℕ) → some_numbers a ≡ Ok (x ∷ l) → a ≡ x ∷ l
       some_list [] q = absurd (let z : ◌≡◌ {A = ℕ} 0 1 = cc in omega arith)
       some_list (y ∷ a) q = cc
 
-      area : (g : Geometry) (a : Answer ℕ) → (a >>= λ s. some_numbers (descending (numbers_in g.reader image s g.ring g.ring 0))) ≡ got (x ∷ l)
+      area : (g : Geometry) (a : Answer ℕ) → (a >>= λ s. some_numbers (descending (numbers_in g.reader image s g.ring g.ring 0))) ≡ Ok (x ∷ l)
           → (a >>= λ s. or_no_checkpoint (numbered_in g.reader image s g.ring x g.ring 0)) ≡ (a >>= λ s. or_corrupt (latest_in g.reader image s g.ring g.ring 0))
-      area g (got s) q = let t = first_latest g.reader image s g.ring g.ring 0 x l (some_list _ q) in rw (t.1, t.2)
-      area g (no w) q = refl
+      area g (Ok s) q = let t = first_latest g.reader image s g.ring g.ring 0 x l (some_list _ q) in rw (t.1, t.2)
+      area g (Err w) q = refl
 
-      zero : (a : Answer Geometry) → (a >>= λ g. numbers_of image g) ≡ got (x ∷ l) → from 0 a (λ g. container_of (choice.Number x) image g) ≡ from 0 a (λ g. container_of choice.Latest image g)
-      zero (got g) q = ap (λ (a : Answer Superblock). from 0 (a >>= supported) (λ s. mapped_of image g.reader s)) (area g (area_at (length image) g) q)
-      zero (no w) q = refl
+      zero : (a : Answer Geometry) → (a >>= λ g. numbers_of image g) ≡ Ok (x ∷ l) → from 0 a (λ g. container_of (choice.Number x) image g) ≡ from 0 a (λ g. container_of choice.Latest image g)
+      zero (Ok g) q = ap (λ (a : Answer Superblock). from 0 (a >>= supported) (λ s. mapped_of image g.reader s)) (area g (area_at (length image) g) q)
+      zero (Err w) q = refl
 
       sized : Dec (length image ≤ 2 ^ 34) → open_at (choice.Number x) image ≡ open_at choice.Latest image
       sized (Dec.yes h) = open_within (choice.Number x) h ∙ (zero (geometry_at image) (sym (list_within h) ∙ e) ∙ sym (open_within choice.Latest h))
       sized (Dec.no h) = absurd (let q = sym (list_beyond (omega arith)) ∙ e in let z : ◌≡◌ {A = ℕ} 0 1 = cc in omega arith)
 
 -- ---- the number that is looked up by
-supported_is : (sb s : Superblock) → supported sb ≡ got s → sb ≡ s
+supported_is : (sb s : Superblock) → supported sb ≡ Ok s → sb ≡ s
 unfolding supported
 supported_is sb s e = got_is sb s (same_but (sb.incompat / 256 % 2) (same_but (sb.incompat % 2) e))
   where
-    same_but : (n : ℕ) {x : Answer Superblock} → if_eq n 1 (no Unsupported) x ≡ got s → x ≡ got s
-    same_but n {x} = eq_cases (λ (a : Answer Superblock). a ≡ got s → x ≡ got s) (λ h q. absurd (let z : ◌≡◌ {A = ℕ} 0 1 = cc in omega arith)) (λ h q. q)
+    same_but : (n : ℕ) {x : Answer Superblock} → if_eq n 1 (Err Unsupported) x ≡ Ok s → x ≡ Ok s
+    same_but n {x} = eq_cases (λ (a : Answer Superblock). a ≡ Ok s → x ≡ Ok s) (λ h q. absurd (let z : ◌≡◌ {A = ℕ} 0 1 = cc in omega arith)) (λ h q. q)
 
-some_number : (a : Option Superblock) (sb : Superblock) → or_no_checkpoint a ≡ got sb → a ≡ some sb
-some_number (some s) sb e = ap some (got_is s sb e)
-some_number none sb e = absurd (let z : ◌≡◌ {A = ℕ} 0 1 = cc in omega arith)
+some_number : (a : Option Superblock) (sb : Superblock) → or_no_checkpoint a ≡ Ok sb → a ≡ Some sb
+some_number (Some s) sb e = ap Some (got_is s sb e)
+some_number None sb e = absurd (let z : ◌≡◌ {A = ℕ} 0 1 = cc in omega arith)
 
-by_the_number : (image : List ℕ) (x : ℕ) (c : Container) → (open_at (choice.Number x) image).answer ≡ got c → (c.sb.xid ≡ x) × (c.map.xid ≡ x)
+by_the_number : (image : List ℕ) (x : ℕ) (c : Container) → (open_at (choice.Number x) image).answer ≡ Ok c → (c.sb.xid ≡ x) × (c.map.xid ≡ x)
 unfolding container_of chosen_of numbered_of mapped_of
 by_the_number image x c e = sized (dec_le (length image) (2 ^ 34))
   where
@@ -312,7 +313,7 @@ by_the_number image x c e = sized (dec_le (length image) (2 ^ 34))
         let map : c.map.xid ≡ m.0.xid = ap (λ (y : Container). y.map.xid) (sym q) in
         (sb, map ∙ (sym (map_number g.0.reader image k.0.omap_oid k.0.xid 0 m.0 m.1) ∙ (same ∙ sb)))
 
-module _ (image : List ℕ) (h : length image ≤ 2 ^ 34) (g : Geometry) (start : ℕ) (p : geometry_at image ≡ got g) (a : area_at (length image) g ≡ got start) (q : start ≡ g.base * size image g) where
+module _ (image : List ℕ) (h : length image ≤ 2 ^ 34) (g : Geometry) (start : ℕ) (p : geometry_at image ≡ Ok g) (a : area_at (length image) g ≡ Ok start) (q : start ≡ g.base * size image g) where
   numbers_there : numbers_at image ≡ some_numbers (descending (numbers_in g.reader image (g.base * size image g) g.ring g.ring 0))
   unfolding numbers_of
   numbers_there = list_within image h ∙ rw (p, a, q)

@@ -5,21 +5,20 @@ use mathlib.Core.List.{List, ◌∷◌}
 use native.Mathlib.Nat.{sub-zero}
 use native.Mathlib.Omega.{arith}
 use borrow.Author.Rules.{rules}
-use Rattle.error.specs.Answer.{Answer, got, no}
+use Rattle.error.specs.Answer.{Answer, Ok, Err}
 use Rattle.error.specs.declared.Refusal.{Refusal}
 use Rattle.error.specs.declared.Refusal.TheVariants.{NotFound}
 use Rattle.error.proofs.Laws.{same, other}
-use Rattle.byte_fields.specs.Number.{number_at, told}
-use Rattle.byte_fields.specs.declared.Number.{Number}
+use Rattle.byte_fields.specs.Number.{number_at}
 use Rattle.nx.specs.Slots.{slot_at, slot_of, slot_count, slots_in, volumes_of, volume_at}
 use Rattle.checkpoints.specs.declared.superblock.Superblock.{Superblock}
 
-module _ (b : List ℕ) (i : ℕ) (r : Number) (p : told r ≡ number_at 8 b (184 + 8 * i)) where
-  pub slot_read : (x : ℕ) → r ≡ Number.Got x → x ≡ slot_at b i
+module _ (b : List ℕ) (i : ℕ) (r : Answer ℕ) (p : r ≡ number_at 8 b (184 + 8 * i)) where
+  pub slot_read : (x : ℕ) → r ≡ Ok x → x ≡ slot_at b i
   unfolding slot_at
   slot_read x q = rw (← p, q)
 
-  pub slot_none : (e : Refusal) → r ≡ Number.No e → 0 ≡ slot_at b i
+  pub slot_none : (e : Refusal) → r ≡ Err e → 0 ≡ slot_at b i
   unfolding slot_at
   slot_none e q = rw (← p, q)
 
@@ -31,7 +30,7 @@ module _ (image : List ℕ) (sb : Superblock) where
   slots_start n index e = rw (sub-zero, e)
 
   module _ (n i left : ℕ) (whole : Answer ℕ) (p : volume_at left (slots_in image sb (n - i) i) ≡ whole) where
-    pub slots_done : n ≤ i → no NotFound ≡ whole
+    pub slots_done : n ≤ i → Err NotFound ≡ whole
     unfolding slots_in volume_at
     slots_done h = let q : n - i ≡ 0 = omega arith in rw q at p
 
@@ -50,7 +49,7 @@ module _ (image : List ℕ) (sb : Superblock) where
           let k : slot_of image sb i ≡ 0 → ⊥ = λ t. z (e ∙ t) in
           rw e (ap (volume_at left) (other _ _ _ _ _ k refl) ∙ (rw q at p))
 
-      pub slots_here : (oid ≡ 0 → ⊥) → left ≡ 0 → got oid ≡ whole
+      pub slots_here : (oid ≡ 0 → ⊥) → left ≡ 0 → Ok oid ≡ whole
       unfolding volume_at
       slots_here z t = rw t at (one z)
 

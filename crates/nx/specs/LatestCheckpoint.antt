@@ -14,13 +14,14 @@
 -- What is assumed: nothing. An image is any list of numbers.
 use Rattle.std.specs.Prelude.{ℕ, ◌+◌, ◌-◌, ◌*◌, ◌/◌, ◌%◌, ◌^◌, ◌≤◌, ◌<◌, ◌≡◌, true, ◌↔◌, List, length}
 use Rattle.std.specs.Int.Count.{ones}
-use Rattle.error.specs.Answer.{got, no, if_eq}
+use Rattle.error.specs.Answer.{Ok, Err, if_eq}
 use Rattle.error.specs.declared.Refusal.TheVariants.{Corrupt, Unsupported}
 use Rattle.byte_fields.specs.Number.{little}
 use Rattle.byte_fields.specs.Part.{part_of}
 use Rattle.byte_fields.specs.declared.Span.{Span}
 use Rattle.checksum.specs.Fletcher.{valid}
-use Rattle.lookup.specs.Counted.{Counted, after, onto}
+use Rattle.lookup.specs.declared.counted.Counted.{Counted}
+use Rattle.lookup.specs.Counted.{after, onto}
 use Rattle.omap.specs.Load.{map_at}
 use Rattle.geometry.specs.BlockZero.{geometry_at, area_at}
 use Rattle.geometry.specs.declared.Geometry.{Geometry}
@@ -134,22 +135,22 @@ module _ (image : List ℕ) (g : Geometry) where
   -- "Version 1, then Fusion: 3. Then the object map": NX_INCOMPAT_VERSION1 0x1, NX_INCOMPAT_FUSION 0x100
   unfoldable pub opened_as : Superblock → Counted Container
   opened_as sb =
-      if_eq (sb.incompat % 2) 1 (after 0 (no Unsupported))
-      (if_eq (sb.incompat / 256 % 2) 1 (after 0 (no Unsupported))
+      if_eq (sb.incompat % 2) 1 (after 0 (Err Unsupported))
+      (if_eq (sb.incompat / 256 % 2) 1 (after 0 (Err Unsupported))
       (onto (map_at g.reader image sb.omap_oid sb.xid 0) λ m nodes.
-      after nodes (got (record { reader = g.reader; sb = sb; map = m }))))
+      after nodes (Ok (record { reader = g.reader; sb = sb; map = m }))))
 
   -- how opening ends
   pub data Opens : Type 0 where
     at_latest_lem : (i : ℕ) → Latest i → open_at choice.Latest image ≡ opened_as (superblock_of i) → Opens
     -- "No accepted candidate: 2"
-    no_candidate : ((i : ℕ) → Candidate i → ⊥) → open_at choice.Latest image ≡ after 0 (no Corrupt) → Opens
+    no_candidate : ((i : ℕ) → Candidate i → ⊥) → open_at choice.Latest image ≡ after 0 (Err Corrupt) → Opens
 
 -- ---- the theorem
 
 -- block 0 and the area are read
 abbrev pub AreaRead : List ℕ → Type 0
-AreaRead image = (g : Geometry) × (start : ℕ) × (geometry_at image ≡ got g) × (area_at (length image) g ≡ got start)
+AreaRead image = (g : Geometry) × (start : ℕ) × (geometry_at image ≡ Ok g) × (area_at (length image) g ≡ Ok start)
 
 pub record LatestCheckpoint : Type 0 where
   -- 1 and 2

@@ -14,7 +14,7 @@
 --
 -- What is assumed: nothing. An image is any list of numbers.
 use Rattle.std.specs.Prelude.{ℕ, suc, ◌+◌, ◌^◌, ◌≤◌, ◌≡◌, List, [], ◌∷◌, length}
-use Rattle.error.specs.Answer.{got, no, if_eq}
+use Rattle.error.specs.Answer.{Ok, Err, if_eq}
 use Rattle.error.specs.declared.Refusal.{Refusal}
 use Rattle.error.specs.declared.Refusal.TheVariants.{Corrupt, NoCheckpoint}
 use Rattle.lookup.specs.Counted.{after}
@@ -55,22 +55,22 @@ module _ (image : List ℕ) (g : Geometry) where
 
   -- how listing ends: "the transaction numbers of all accepted checkpoints", "greatest first, repeats kept"; "an empty list is 2 there"
   pub data Lists : Type 0 where
-    listed : (l : List ℕ) → Descends l → ((x : ℕ) → HowMany (Numbered x) 0 g.ring (times x l)) → numbers_at image ≡ got l → Lists
-    none_listed : ((i : ℕ) → Candidate image g i → ⊥) → numbers_at image ≡ no Corrupt → Lists
+    listed : (l : List ℕ) → Descends l → ((x : ℕ) → HowMany (Numbered x) 0 g.ring (times x l)) → numbers_at image ≡ Ok l → Lists
+    none_listed : ((i : ℕ) → Candidate image g i → ⊥) → numbers_at image ≡ Err Corrupt → Lists
 
   -- how opening by a number ends: "taking the earliest of equals"; "13 when no accepted candidate has that number"
   pub data OpensBy (x : ℕ) : Type 0 where
     at_number_lem : (i : ℕ) → Numbered x i → ((j : ℕ) → Numbered x j → i ≤ j) → open_at (choice.Number x) image ≡ opened_as image g (superblock_of image g i) → OpensBy x
-    no_number : ((i : ℕ) → Numbered x i → ⊥) → open_at (choice.Number x) image ≡ after 0 (no NoCheckpoint) → OpensBy x
+    no_number : ((i : ℕ) → Numbered x i → ⊥) → open_at (choice.Number x) image ≡ after 0 (Err NoCheckpoint) → OpensBy x
 
 -- ---- the theorem
 
 -- "in the place of the 2 for no candidate": where opening is refused before it looks for candidates, so are the others
 pub record RefusedAlike (image : List ℕ) : Type 0 where
   pub why : Refusal
-  pub latest : open_at choice.Latest image ≡ after 0 (no why)
-  pub by_number : (x : ℕ) → open_at (choice.Number x) image ≡ after 0 (no why)
-  pub list : numbers_at image ≡ no why
+  pub latest : open_at choice.Latest image ≡ after 0 (Err why)
+  pub by_number : (x : ℕ) → open_at (choice.Number x) image ≡ after 0 (Err why)
+  pub list : numbers_at image ≡ Err why
 
 pub record NumberedCheckpoints : Type 0 where
   -- 1
@@ -78,8 +78,8 @@ pub record NumberedCheckpoints : Type 0 where
   -- 2
   pub opening : (image : List ℕ) → length image ≤ 2 ^ 34 → AreaRead image → (x : ℕ) → OpensBy image (block_zero image) x
   -- 3
-  pub first : (image : List ℕ) (x : ℕ) (l : List ℕ) → numbers_at image ≡ got (x ∷ l) → open_at (choice.Number x) image ≡ open_at choice.Latest image
+  pub first : (image : List ℕ) (x : ℕ) (l : List ℕ) → numbers_at image ≡ Ok (x ∷ l) → open_at (choice.Number x) image ≡ open_at choice.Latest image
   -- 4
   pub refused : (image : List ℕ) → ((length image ≤ 2 ^ 34) × AreaRead image → ⊥) → RefusedAlike image
   -- 5. "Object map lookups use the chosen number"
-  pub lookups : (image : List ℕ) (x : ℕ) (c : Container) → (open_at (choice.Number x) image).answer ≡ got c → (c.sb.xid ≡ x) × (c.map.xid ≡ x)
+  pub lookups : (image : List ℕ) (x : ℕ) (c : Container) → (open_at (choice.Number x) image).answer ≡ Ok c → (c.sb.xid ≡ x) × (c.map.xid ≡ x)

@@ -1,14 +1,14 @@
 -- The volumes of a container. Document 01, nx.rs: "Volume slots: the first 100 at most, zeros dropped, order kept".
 use Rattle.std.specs.Prelude.{ℕ, zero, suc, ◌+◌, ◌*◌, min, List, [], ◌∷◌}
-use Rattle.error.specs.Answer.{Answer, got, no, if_eq}
+use Rattle.error.specs.Answer.{Answer, Ok, Err, if_eq}
 use Rattle.error.specs.declared.Refusal.TheVariants.{NotFound}
 use Rattle.byte_fields.specs.Number.{number_at}
 use Rattle.byte_fields.specs.Part.{part_of}
 use Rattle.checkpoints.specs.declared.superblock.Superblock.{Superblock}
 
 abbrev pub or_zero : Answer ℕ → ℕ
-or_zero (got n) = n
-or_zero (no e) = 0
+or_zero (Ok n) = n
+or_zero (Err e) = 0
 
 -- nx_fs_oid[i]
 unfoldable pub slot_at : List ℕ → ℕ → ℕ
@@ -31,6 +31,6 @@ volumes_of image sb = slots_in image sb (slot_count sb) 0
 
 -- "4 no such volume index"
 unfoldable pub volume_at : ℕ → List ℕ → Answer ℕ
-volume_at i [] = no NotFound
-volume_at zero (x ∷ xs) = got x
+volume_at i [] = Err NotFound
+volume_at zero (x ∷ xs) = Ok x
 volume_at (suc i) (x ∷ xs) = volume_at i xs

@@ -5,6 +5,6 @@ mod container;
 mod slots;
 mod volume;
 
-pub use container::{Container, Opened, Opening, open};
+pub use container::{Container, open};
 pub use slots::{slot_count, slot_of, volume_oid};
-pub use volume::{VolumeFound, VolumeRead, VolumeSuperblock, volume_superblock};
+pub use volume::{VolumeSuperblock, volume_superblock};

@@ -1,9 +1,8 @@
 // The volume slots of a superblock: the first 100 at most, zeros dropped.
 ghost use Rattle.std.specs.Prelude.{◌≡◌};
-ghost use Rattle.byte_fields.specs.Number.{told};
 ghost use Rattle.nx.specs.Slots.{slot_at, slot_count, slot_of, volumes_of, volume_at};
 
-use byte_fields::{Number, part, u64_at};
+use byte_fields::{part, u64_at};
 use checkpoints::Superblock;
 use error::Refusal;
 
@@ -12,8 +11,8 @@ fn slot_at(b: &[u8], i: u32) -> u64
     ensures { result ≡ slot_at b.now i }
 {
     match u64_at(b, 184 + 8 * i as usize) {
-        Number::Got(oid) => oid,
-        Number::No(_) => 0,
+        Ok(oid) => oid,
+        Err(_) => 0,
     }
 }
 
@@ -35,8 +34,8 @@ pub fn slot_of(image: &[u8], sb: Superblock, i: u32) -> u64
 }
 
 // The object id of a volume by its index among the slots in use.
-pub fn volume_oid(image: &[u8], sb: Superblock, index: u64) -> Number
-    ensures { told result ≡ volume_at index (volumes_of image.now sb) }
+pub fn volume_oid(image: &[u8], sb: Superblock, index: u64) -> Result<u64, Refusal>
+    ensures { result ≡ volume_at index (volumes_of image.now sb) }
 {
     let n = slot_count(sb);
     let mut left = index;
@@ -48,9 +47,9 @@ pub fn volume_oid(image: &[u8], sb: Superblock, index: u64) -> Number
             continue;
         }
         if left == 0 {
-            return Number::Got(oid);
+            return Ok(oid);
         }
         left -= 1;
     }
-    Number::No(Refusal::NotFound)
+    Err(Refusal::NotFound)
 }

@@ -1,8 +1,8 @@
 -- How many nodes a lookup in a loaded map goes through. Document 01, btree.rs: "at most 33 nodes, root counted".
 -- What is stated here is proved in proofs/Depth.antt.
 use Rattle.std.specs.Prelude.{ℕ, ◌+◌, ◌-◌, ◌^◌, ◌≤◌, min, ◌≡◌, List, length}
-use Rattle.std.proofs.Math.Option.{Option}
-use Rattle.error.specs.Answer.{got}
+use Rattle.std.specs.Prelude.{Option}
+use Rattle.error.specs.Answer.{Ok}
 use Rattle.obj.specs.declared.reader.Reader.{Reader}
 use Rattle.lookup.specs.Lookup.{path_of}
 use Rattle.lookup.specs.Map.{target_for, map_lookup}
@@ -21,5 +21,5 @@ pub record Within33 (r : Reader) (image : List ℕ) (m : Map) (oid : ℕ) : Type
 
 abbrev pub LoadedWithin33 : Type 0
 LoadedWithin33 =
-    (r : Reader) (image : List ℕ) (paddr xid s : ℕ) (m : Map) → (map_at r image paddr xid s).answer ≡ got m →
-    (oid n : ℕ) (v : Option MapValue) → (map_lookup r image m oid n).answer ≡ got v → Within33 r image m oid
+    (r : Reader) (image : List ℕ) (paddr xid s : ℕ) (m : Map) → (map_at r image paddr xid s).answer ≡ Ok m →
+    (oid n : ℕ) (v : Option MapValue) → (map_lookup r image m oid n).answer ≡ Ok v → Within33 r image m oid

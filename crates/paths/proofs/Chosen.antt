@@ -4,8 +4,7 @@ use mathlib.Core.Path.{◌≡◌, refl, sym, ◌∙◌}
 use mathlib.Core.Bool.{Bool, true, false}
 use mathlib.Core.List.{List, [], ◌∷◌}
 use native.Mathlib.Omega.{arith}
-use Rattle.error.specs.Answer.{Answer, got, no, pick}
-use Rattle.error.specs.declared.Refusal.{Refusal}
+use Rattle.error.specs.Answer.{Answer, Ok, Err, pick}
 use Rattle.error.specs.declared.Refusal.TheVariants.{NotFound, CharacterNotCovered}
 use Rattle.error.proofs.Laws.{picked, not_picked}
 use Rattle.utf8.specs.Text.{lossy, same_bytes}
@@ -20,10 +19,6 @@ use Rattle.paths.specs.declared.choose.Choice.{Choice}
 use Rattle.paths.specs.declared.choose.Choice.TheVariants.{Open, Exact, Keyed, No}
 use Rattle.paths.proofs.Keys.{wide_reading, ascii_reading}
 
--- a choice that is refused
-pub settle_no : (c : Choice) (w : Refusal) → c ≡ No w → no w ≡ settled c
-settle_no c w h = rw h
-
 -- an ASCII name is compared as it stands
 module _ (rule : NameRule) (name p : List ℕ) (e : Entry) (k : Bool) (h : k ≡ wide name) where
   pub key_wide : k ≡ true → No CharacterNotCovered ≡ by_key rule (lossy name) p e
@@ -35,24 +30,6 @@ module _ (rule : NameRule) (name p : List ℕ) (e : Entry) (k : Bool) (h : k ≡
   key_ascii z t g =
       let w : wide name ≡ false = sym h ∙ t in
       not_picked _ _ _ _ (wide_reading name ∙ w) (rw (ascii_reading name w) g)
-
--- an entry by what is known before it
-module _ (rule : NameRule) (name p : List ℕ) (e : Entry) (c r : Choice) where
-  pub weigh_open : (o : Choice) → c ≡ Open → o ≡ by_key rule name p e → r ≡ unless_exact name p e o → r ≡ weighed rule name p e c
-  unfolding weighed
-  weigh_open o g k h = rw (g, ← k) h
-
-  pub weigh_keyed : (x : Entry) → c ≡ Keyed x → r ≡ unless_exact name p e c → r ≡ weighed rule name p e c
-  unfolding weighed
-  weigh_keyed x g h = rw g (rw g at h)
-
-  pub weigh_no : (w : Refusal) → c ≡ No w → r ≡ unless_exact name p e c → r ≡ weighed rule name p e c
-  unfolding weighed
-  weigh_no w g h = rw g (rw g at h)
-
-pub weigh_exact : (rule : NameRule) (name p : List ℕ) (e : Entry) (c : Choice) (x : Entry) → c ≡ Exact x → c ≡ weighed rule name p e c
-unfolding weighed
-weigh_exact rule name p e c x g = rw g
 
 -- equality of bytes goes both ways
 pub same_sym : (a b : List ℕ) → same_bytes a b ≡ same_bytes b a
@@ -66,15 +43,15 @@ module _ (rule : NameRule) (name : Entry → List ℕ) (p : List ℕ) where
   -- what is chosen in the list that is left, by what is known before it
   unfoldable pub chosen : Choice → List Entry → Answer Entry
   chosen Open es = exact_match name p es (key_match rule name p es)
-  chosen (Exact x) es = got x
-  chosen (Keyed x) es = exact_match name p es (got x)
-  chosen (No w) es = exact_match name p es (no w)
+  chosen (Exact x) es = Ok x
+  chosen (Keyed x) es = exact_match name p es (Ok x)
+  chosen (No w) es = exact_match name p es (Err w)
 
   pub chosen_start : (es : List Entry) → chosen (none_yet rule p) es ≡ find_entry rule name p es
   unfolding chosen none_yet find_entry
   chosen_start es = of (insensitive rule) (wide p)
     where
-      of : (d t : Bool) → chosen (pick d (pick t (No CharacterNotCovered) Open) (No NotFound)) es ≡ exact_match name p es (pick d (pick t (no CharacterNotCovered) (key_match rule name p es)) (no NotFound))
+      of : (d t : Bool) → chosen (pick d (pick t (No CharacterNotCovered) Open) (No NotFound)) es ≡ exact_match name p es (pick d (pick t (Err CharacterNotCovered) (key_match rule name p es)) (Err NotFound))
       of true true = refl
       of true false = refl
       of false t = refl
@@ -84,7 +61,7 @@ module _ (rule : NameRule) (name : Entry → List ℕ) (p : List ℕ) where
   unfolding chosen unless_exact exact_match
   exact_next e es c other h = rw (same_sym (name e) p) (of (same_bytes p (name e)))
     where
-      of : (d : Bool) → chosen (pick d (Exact e) c) es ≡ pick d (got e) (exact_match name p es other)
+      of : (d : Bool) → chosen (pick d (Exact e) c) es ≡ pick d (Ok e) (exact_match name p es other)
       of true = refl
       of false = h
 
@@ -92,7 +69,7 @@ module _ (rule : NameRule) (name : Entry → List ℕ) (p : List ℕ) where
   unfolding chosen by_key key_match
   key_next e es = of (wide (name e)) (same_keys rule.case_insensitive rule.normalization_insensitive p (name e))
     where
-      of : (d t : Bool) → chosen (pick d (No CharacterNotCovered) (pick t (Keyed e) Open)) es ≡ exact_match name p es (pick d (no CharacterNotCovered) (pick t (got e) (key_match rule name p es)))
+      of : (d t : Bool) → chosen (pick d (No CharacterNotCovered) (pick t (Keyed e) Open)) es ≡ exact_match name p es (pick d (Err CharacterNotCovered) (pick t (Ok e) (key_match rule name p es)))
       of true t = refl
       of false true = refl
       of false false = refl
@@ -110,5 +87,3 @@ module _ (rule : NameRule) (name : Entry → List ℕ) (p : List ℕ) where
   chosen_end (Exact x) = refl
   chosen_end (Keyed x) = refl
   chosen_end (No w) = refl
-
-pub ruleset weighing = (key_wide, key_ascii, weigh_open, weigh_exact, weigh_keyed, weigh_no)

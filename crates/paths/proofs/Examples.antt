@@ -3,7 +3,7 @@ use Prim.Native.Nat.{ℕ, zero, suc}
 use mathlib.Core.Path.{◌≡◌, refl}
 use mathlib.Core.Bool.{true, false}
 use mathlib.Core.List.{List, [], ◌∷◌}
-use Rattle.error.specs.Answer.{got, no, if_le, if_eq}
+use Rattle.error.specs.Answer.{Ok, Err, if_le, if_eq}
 use Rattle.error.specs.declared.Refusal.TheVariants.{NotFound, CharacterNotCovered}
 use Rattle.utf8.specs.Text.{same_bytes}
 use Rattle.name_hash.specs.Hash.{lower}
@@ -75,43 +75,43 @@ sensitive : NameRule
 sensitive = record { case_insensitive = false; normalization_insensitive = false }
 
 -- an exactly equal name comes before an earlier one with an equal key, and the first of two exactly equal names is taken
-exact_first : find_entry case_insensitive name_of (97 ∷ []) (entry 0 ∷ entry 1 ∷ entry 2 ∷ []) ≡ got (entry 1)
+exact_first : find_entry case_insensitive name_of (97 ∷ []) (entry 0 ∷ entry 1 ∷ entry 2 ∷ []) ≡ Ok (entry 1)
 unfolding find_entry exact_match same_bytes if_eq name_of named entry
 exact_first = refl
 
 -- an exactly equal name is taken behind one that is not covered, and may itself not be covered
-exact_behind : find_entry case_insensitive name_of (97 ∷ []) (entry 3 ∷ entry 1 ∷ []) ≡ got (entry 1)
+exact_behind : find_entry case_insensitive name_of (97 ∷ []) (entry 3 ∷ entry 1 ∷ []) ≡ Ok (entry 1)
 unfolding find_entry exact_match same_bytes if_eq name_of named entry
 exact_behind = refl
 
-exact_wide : find_entry case_insensitive name_of (0xC3 ∷ 0xA4 ∷ []) (entry 0 ∷ entry 3 ∷ []) ≡ got (entry 3)
+exact_wide : find_entry case_insensitive name_of (0xC3 ∷ 0xA4 ∷ []) (entry 0 ∷ entry 3 ∷ []) ≡ Ok (entry 3)
 unfolding find_entry exact_match same_bytes if_eq name_of named entry
 exact_wide = refl
 
 -- else the first with an equal key, before one that is not covered
-keyed : find_entry case_insensitive name_of (65 ∷ []) (entry 1 ∷ entry 2 ∷ entry 3 ∷ []) ≡ got (entry 1)
+keyed : find_entry case_insensitive name_of (65 ∷ []) (entry 1 ∷ entry 2 ∷ entry 3 ∷ []) ≡ Ok (entry 1)
 unfolding find_entry exact_match key_match same_keys folded_key folded lower wide same_bytes if_eq if_le name_of named entry case_insensitive
 keyed = refl
 
 -- 9 behind one that is not covered
-keyed_behind : find_entry case_insensitive name_of (65 ∷ []) (entry 3 ∷ entry 1 ∷ []) ≡ no CharacterNotCovered
+keyed_behind : find_entry case_insensitive name_of (65 ∷ []) (entry 3 ∷ entry 1 ∷ []) ≡ Err CharacterNotCovered
 unfolding find_entry exact_match key_match same_keys folded_key folded lower wide same_bytes if_eq if_le name_of named entry case_insensitive
 keyed_behind = refl
 
 -- where only normalization does not count, case does, and 9 is met all the same
-cased : find_entry normalization_insensitive name_of (65 ∷ []) (entry 1 ∷ entry 2 ∷ []) ≡ no NotFound
+cased : find_entry normalization_insensitive name_of (65 ∷ []) (entry 1 ∷ entry 2 ∷ []) ≡ Err NotFound
 unfolding find_entry exact_match key_match same_keys folded_key folded lower wide same_bytes if_eq if_le name_of named entry normalization_insensitive
 cased = refl
 
-cased_behind : find_entry normalization_insensitive name_of (65 ∷ []) (entry 1 ∷ entry 3 ∷ []) ≡ no CharacterNotCovered
+cased_behind : find_entry normalization_insensitive name_of (65 ∷ []) (entry 1 ∷ entry 3 ∷ []) ≡ Err CharacterNotCovered
 unfolding find_entry exact_match key_match same_keys folded_key folded lower wide same_bytes if_eq if_le name_of named entry normalization_insensitive
 cased_behind = refl
 
 -- a part that is not covered is 9 in an empty directory, but 4 on a sensitive volume
-part_first : find_entry case_insensitive name_of (0xC3 ∷ 0x84 ∷ []) [] ≡ no CharacterNotCovered
+part_first : find_entry case_insensitive name_of (0xC3 ∷ 0x84 ∷ []) [] ≡ Err CharacterNotCovered
 unfolding find_entry exact_match wide if_le case_insensitive
 part_first = refl
 
-part_sensitive : find_entry sensitive name_of (0xC3 ∷ 0x84 ∷ []) (entry 3 ∷ []) ≡ no NotFound
+part_sensitive : find_entry sensitive name_of (0xC3 ∷ 0x84 ∷ []) (entry 3 ∷ []) ≡ Err NotFound
 unfolding find_entry exact_match same_bytes if_eq name_of named entry sensitive
 part_sensitive = refl

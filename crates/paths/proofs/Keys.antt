@@ -1,36 +1,34 @@
 -- Names compared by their keys, and what the lossy reading of an ASCII name is.
-use Prim.Native.Nat.{zero-le, ℕ, zero, suc, ◌+◌, ◌≤◌, ◌<◌}
+use Prim.Native.Nat.{ℕ, zero, suc, ◌+◌, ◌≤◌, ◌<◌}
 use mathlib.Core.Path.{◌≡◌, refl, sym, ap, ◌∙◌}
-use mathlib.Core.Bool.{Bool, true, false}
+use mathlib.Core.Bool.{Bool, true, false, not}
 use mathlib.Core.List.{List, [], ◌∷◌, ◌++◌}
+use lib.Dec.{leb}
 use lib.ListN.{length, get_or, drop, drop_of_length-le}
 use lib.Seq.{drop-cons}
 use native.Mathlib.Omega.{arith}
 use native.Mathlib.Numerals.{add-one}
-use Rattle.error.specs.Answer.{if_le}
+use Rattle.error.specs.Answer.{pick, if_le}
 use Rattle.error.proofs.Laws.{at_most_lem, above, same, other, le_cases}
-use Rattle.utf8.specs.Text.{same_bytes, rest_of, piece_of, size_of, shown, lossy}
+use Rattle.utf8.specs.Text.{same_bytes, piece_of, size_of, shown, lossy, ascii}
 use Rattle.utf8.specs.declared.Piece.{Piece}
 use Rattle.utf8.specs.declared.Piece.TheVariants.{End, WellFormed, IllFormed}
 use Rattle.utf8.proofs.Equal.{equal_same, unlike_lengths}
-use Rattle.utf8.proofs.Pieces.{inside, one_byte_lem, size_pos}
+use Rattle.utf8.proofs.Ascii.{one_piece, ascii_lossy}
+use Rattle.utf8.proofs.Pieces.{size_pos}
+use borrow.Author.Tests.{not-false}
 use Rattle.utf8.proofs.Reading.{lossy_end, lossy_next}
 use Rattle.paths.specs.Names.{wide, folded, folded_key, same_keys}
 
--- the turns of the loop that looks for a wide character
-module _ (b : List ℕ) (i : ℕ) (whole : Bool) (p : wide (drop i b) ≡ whole) where
-  pub wide_done : length b ≤ i → false ≡ whole
-  unfolding wide
-  wide_done h = rw (drop_of_length-le b h) at p
-
-  module _ (h : i < length b) where
-    pub wide_stops : 127 < get_or b i 0 → true ≡ whole
-    unfolding wide
-    wide_stops k = above _ _ _ _ _ k refl ∙ (rw (drop-cons b i 0 h) at p)
-
-    pub wide_goes : get_or b i 0 ≤ 127 → wide (drop (i + 1) b) ≡ whole
-    unfolding wide
-    wide_goes k = rw add-one (at_most_lem _ _ _ _ _ k refl ∙ (rw (drop-cons b i 0 h) at p))
+-- a name is wide, or ASCII
+pub wide_ascii : (b : List ℕ) (k : Bool) → k ≡ ascii b → not k ≡ wide b
+unfolding wide ascii if_le
+wide_ascii [] k e = rw e
+wide_ascii (x ∷ b) k e = rw e (of (wide_ascii b (ascii b) refl) (leb x 127))
+  where
+    of : not (ascii b) ≡ wide b → (d : Bool) → not (pick d (ascii b) false) ≡ pick d (wide b) true
+    of h true = h
+    of h false = refl
 
 -- a key is as long as its name
 key_length : (c n : Bool) (b : List ℕ) → length (folded_key c n b) ≡ length b
@@ -64,13 +62,8 @@ module _ (c n : Bool) (a b : List ℕ) where
       unfolding same_bytes same_keys
       key_goes k = rw add-one (same _ _ _ _ _ k refl ∙ in_both)
 
--- an ASCII character is a piece of its own
-ascii_piece : (x : ℕ) (b : List ℕ) → x ≤ 127 → piece_of (x ∷ b) ≡ WellFormed 1
-unfolding piece_of rest_of
-ascii_piece x b h = rw (← inside x 0 127 _ _ _ zero-le h refl) (sym (one_byte_lem b))
-
 ascii_first : (x : ℕ) (b : List ℕ) → x ≤ 127 → lossy (x ∷ b) ≡ x ∷ lossy b
-ascii_first x b h = rw (lossy_next (x ∷ b), ascii_piece x b h)
+ascii_first x b h = rw (lossy_next (x ∷ b), one_piece x b h)
 
 -- what reads any other character begins with one above U+007F
 wide_piece : (x : ℕ) (b y : List ℕ) (p : Piece) → piece_of (x ∷ b) ≡ p → 127 < x → wide (shown p (x ∷ b) ++ y) ≡ true
@@ -91,9 +84,4 @@ wide_reading (x ∷ b) =
 
 -- an ASCII name reads as itself
 pub ascii_reading : (b : List ℕ) → wide b ≡ false → lossy b ≡ b
-unfolding wide
-ascii_reading [] = λ e. lossy_end
-ascii_reading (x ∷ b) =
-    le_cases (λ z. z ≡ false → lossy (x ∷ b) ≡ x ∷ b)
-    (λ h e. ascii_first x b h ∙ ap (λ y. x ∷ y) (ascii_reading b e))
-    (λ h e. absurd (let z : ◌≡◌ {A = ℕ} 0 1 = cc in omega arith))
+ascii_reading b e = ascii_lossy b (not-false (ascii b) (wide_ascii b (ascii b) refl ∙ e))

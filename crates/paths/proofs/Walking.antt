@@ -1,92 +1,74 @@
 -- How a lookup goes on from part to part.
 use Prim.Native.Nat.{ℕ, ◌+◌, ◌-◌, ◌≤◌, ◌<◌}
 use mathlib.Core.Path.{◌≡◌, refl, sym, ap, ◌∙◌}
-use mathlib.Core.Bool.{Bool, true, false, not}
+use mathlib.Core.Bool.{Bool, true, false}
 use mathlib.Core.List.{List, [], ◌∷◌}
 use lib.ListN.{length, drop}
 use native.Mathlib.Omega.{arith}
-use Rattle.error.specs.Answer.{no}
+use Rattle.error.specs.Answer.{Err, Ok}
 use Rattle.error.specs.declared.Refusal.{Refusal}
 use Rattle.error.specs.declared.Refusal.TheVariants.{PathNotUtf8}
-use Rattle.error.proofs.Laws.{same, other}
+use Rattle.error.proofs.Laws.{same, other, picked, not_picked}
 use Rattle.byte_fields.specs.Part.{part_of}
 use Rattle.byte_fields.specs.declared.Span.{Span}
 use Rattle.utf8.specs.Text.{strict}
-use Rattle.lookup.specs.Counted.{Counted, after}
+use Rattle.lookup.specs.declared.counted.Counted.{Counted}
+use Rattle.lookup.specs.Counted.{after}
 use Rattle.volume.specs.declared.Volume.{Volume}
-use Rattle.records.specs.declared.directory.Entry.{Entry}
-use Rattle.records.specs.declared.directory.EntryRead.{EntryRead}
 use Rattle.inode_record.specs.declared.inode.Inode.{Inode}
-use Rattle.inode_record.specs.declared.inode.InodeRead.{InodeRead}
 use Rattle.lists.specs.Lists.{inode_of}
-use Rattle.lists.specs.Told.{inode_found}
-use Rattle.lists.specs.declared.inodes.InodeFound.{InodeFound}
 use Rattle.paths.specs.Parts.{parts_of}
 use Rattle.paths.specs.Inner.{next_part}
-use Rattle.paths.specs.Lookup.{entry_chosen, entry_in, part_inode, walk_parts, lookup_path}
-use Rattle.paths.specs.declared.walk.EntryChosen.{EntryChosen}
-use Rattle.paths.proofs.Laws.{all, denied, granted}
+use Rattle.paths.specs.Lookup.{part_inode, walk_parts, lookup_path}
 use Rattle.paths.proofs.Parts.{parts_with, next_parts, next_from, next_in}
 
--- the inode of the entry that was chosen
-module _ (b : List ℕ) (v : Volume) (p : List ℕ) (id s : ℕ) (r : EntryChosen) (h : entry_chosen r ≡ entry_in b v id p s) where
-  pub enter_got : (e : Entry) (z : Counted Inode) → r.entry ≡ EntryRead.Got e → z ≡ inode_of b v e.file_id r.nodes → z ≡ part_inode b v p id s
-  unfolding part_inode
-  enter_got e z q k = rw (← h, q) k
-
-  pub enter_no : (w : Refusal) → r.entry ≡ EntryRead.No w → after r.nodes (no w) ≡ part_inode b v p id s
-  unfolding part_inode
-  enter_no w q = rw (← h, q)
-
 -- after a refusal no part is looked up
-walk_refused : (b : List ℕ) (v : Volume) (n : ℕ) (w : Refusal) (ps : List (List ℕ)) → walk_parts b v (after n (no w)) ps ≡ after n (no w)
+walk_refused : (b : List ℕ) (v : Volume) (n : ℕ) (w : Refusal) (ps : List (List ℕ)) → walk_parts b v (after n (Err w)) ps ≡ after n (Err w)
 unfolding walk_parts
 walk_refused b v n w [] = refl
 walk_refused b v n w (p ∷ ps) = walk_refused b v n w ps
 
 -- f was reached, and the part p is the next, if it is not empty
-pub record Walking (b : List ℕ) (v : Volume) (path : List ℕ) (s : ℕ) (f : InodeFound) (p : Span) : Type 0 where
+pub record Walking (b : List ℕ) (v : Volume) (path : List ℕ) (s : ℕ) (f : Counted Inode) (p : Span) : Type 0 where
   pub within : p.start + p.len ≤ length path
-  pub rest : walk_parts b v (inode_found f) (parts_with path p) ≡ lookup_path b v path s
+  pub rest : walk_parts b v f (parts_with path p) ≡ lookup_path b v path s
 
 module _ (b : List ℕ) (v : Volume) (path : List ℕ) (s : ℕ) (k : Bool) (h : k ≡ strict path) where
-  pub not_utf8 : not k ≡ true → after s (no PathNotUtf8) ≡ lookup_path b v path s
+  pub not_utf8 : k ≡ false → after s (Err PathNotUtf8) ≡ lookup_path b v path s
   unfolding lookup_path
-  not_utf8 t = denied _ _ _ k _ h t refl
+  not_utf8 t = not_picked _ _ _ _ (sym h ∙ t) refl
 
-  pub walk_begun : (f : InodeFound) (p : Span) → not k ≡ false → inode_found f ≡ inode_of b v 2 s → p ≡ next_part path 0 → Walking b v path s f p
+  pub walk_begun : (f : Counted Inode) (p : Span) → k ≡ true → f ≡ inode_of b v 2 s → p ≡ next_part path 0 → Walking b v path s f p
   unfolding lookup_path
   walk_begun f p t g e = record {
     within = rw e (next_in path 0 (omega arith));
-    rest = rw (e, next_parts path 0) (granted _ _ _ k _ h t (rw g));
+    rest = rw (e, next_parts path 0) (picked _ _ _ _ (sym h ∙ t) (rw g));
   }
 
-module _ (b : List ℕ) (v : Volume) (path : List ℕ) (s : ℕ) (f : InodeFound) (p : Span) (w : Walking b v path s f p) where
-  pub walk_done : p.len ≤ 0 → inode_found f ≡ lookup_path b v path s
+module _ (b : List ℕ) (v : Volume) (path : List ℕ) (s : ℕ) (f : Counted Inode) (p : Span) (w : Walking b v path s f p) where
+  pub walk_done : p.len ≤ 0 → f ≡ lookup_path b v path s
   unfolding walk_parts parts_with
   walk_done h =
       let z : p.len ≡ 0 = omega arith in
-      ap (walk_parts b v (inode_found f)) (same _ _ _ _ _ z refl) ∙ w.rest
+      ap (walk_parts b v f) (same _ _ _ _ _ z refl) ∙ w.rest
 
   module _ (h : 0 < p.len) where
-    onward : walk_parts b v (inode_found f) (part_of path p ∷ parts_of (drop (p.start + p.len) path)) ≡ lookup_path b v path s
+    onward : walk_parts b v f (part_of path p ∷ parts_of (drop (p.start + p.len) path)) ≡ lookup_path b v path s
     unfolding parts_with
     onward =
         let z : p.len ≡ 0 → ⊥ = λ e. omega arith in
-        ap (walk_parts b v (inode_found f)) (other _ _ _ _ _ z refl) ∙ w.rest
+        ap (walk_parts b v f) (other _ _ _ _ _ z refl) ∙ w.rest
 
-    pub walk_stops : (e : Refusal) → f.inode ≡ InodeRead.No e → inode_found f ≡ lookup_path b v path s
+    pub walk_stops : (e : Refusal) → f.answer ≡ Err e → f ≡ lookup_path b v path s
     walk_stops e q = rw q (sym (walk_refused b v f.nodes e _) ∙ (rw q at onward))
 
     module _ (q : Span) (e : q ≡ next_part path (p.start + p.len)) where
       pub walk_less : length path - q.start < length path - p.start
       walk_less = rw e (omega (arith, w.within, next_from path (p.start + p.len)))
 
-      pub walk_next : (dir : Inode) (part : List ℕ) (g : InodeFound) → f.inode ≡ InodeRead.Got dir → part ≡ part_of path p → inode_found g ≡ part_inode b v part dir.id f.nodes → Walking b v path s g q
+      pub walk_next : (dir : Inode) (part : List ℕ) (g : Counted Inode) → f.answer ≡ Ok dir → part ≡ part_of path p → g ≡ part_inode b v part dir.id f.nodes → Walking b v path s g q
       unfolding walk_parts
       walk_next dir part g d t i = record {
         within = rw e (next_in path (p.start + p.len) w.within);
         rest = rw (e, next_parts path (p.start + p.len), i, t) (rw d at onward);
       }
-
-pub ruleset walking = (all, enter_got, enter_no, not_utf8, walk_begun, walk_done, walk_stops, walk_less, walk_next)

@@ -3,7 +3,7 @@
 -- `chosen_start` (proofs/Chosen.antt).
 use Rattle.std.specs.Prelude.{ℕ, suc, ◌+◌, Bool, true, false, List, [], ◌∷◌, drop}
 use Rattle.std.specs.Bool.{beq}
-use Rattle.error.specs.Answer.{Answer, got, no, pick}
+use Rattle.error.specs.Answer.{Answer, Ok, Err, pick}
 use Rattle.error.specs.declared.Refusal.TheVariants.{NotFound, CharacterNotCovered}
 use Rattle.byte_fields.specs.declared.Span.{Span}
 use Rattle.utf8.specs.Text.{same_bytes}
@@ -36,10 +36,10 @@ weighed rule name p e (No w) = unless_exact name p e (No w)
 
 -- and after the last; 4 "no such .. path part"
 abbrev pub settled : Choice → Answer Entry
-settled Open = no NotFound
-settled (Exact x) = got x
-settled (Keyed x) = got x
-settled (No w) = no w
+settled Open = Err NotFound
+settled (Exact x) = Ok x
+settled (Keyed x) = Ok x
+settled (No w) = Err w
 
 -- the parts by their places: how many bytes at the head are separators, or are none
 unfoldable pub leading : Bool → List ℕ → ℕ

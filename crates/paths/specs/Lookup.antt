@@ -1,22 +1,19 @@
 -- Looking a path up. Document 01, "Records" and "Answers other than success"; the order of reading is that of fs.rs, `lookup_path`.
 use Rattle.std.specs.Prelude.{ℕ, List, [], ◌∷◌}
-use Rattle.error.specs.Answer.{no, pick}
+use Rattle.error.specs.Answer.{Err, pick}
 use Rattle.error.specs.declared.Refusal.TheVariants.{PathNotUtf8}
 use Rattle.utf8.specs.Text.{lossy, strict}
 use Rattle.obj.specs.declared.reader.Reader.{Reader}
-use Rattle.lookup.specs.Counted.{Counted, after, onto}
+use Rattle.lookup.specs.declared.counted.Counted.{Counted}
+use Rattle.lookup.specs.Counted.{after, onto}
 use Rattle.volume.specs.declared.Volume.{Volume}
-use Rattle.records.specs.Directory.{entry_told, entry_name}
+use Rattle.records.specs.Directory.{entry_name}
 use Rattle.records.specs.declared.directory.Entry.{Entry}
 use Rattle.inode_record.specs.declared.inode.Inode.{Inode}
 use Rattle.lists.specs.Lists.{entries_of, inode_of, root_of}
 use Rattle.paths.specs.Parts.{parts_of}
 use Rattle.volume.specs.Rule.{rule_of}
 use Rattle.paths.specs.Find.{find_entry}
-use Rattle.paths.specs.declared.walk.EntryChosen.{EntryChosen}
-
-abbrev pub entry_chosen : EntryChosen → Counted Entry
-entry_chosen r = after r.nodes (entry_told r.entry)
 
 -- an entry's name, "comparisons read it lossily"
 unfoldable pub name_read : Reader → List ℕ → Entry → List ℕ
@@ -37,4 +34,4 @@ walk_parts b v c (p ∷ ps) = walk_parts b v (onto c λ f t. part_inode b v p f.
 
 -- from the root (ROOT_DIR_INO_NUM is 2); 5 "path not UTF-8, after opening and before the root is read"
 unfoldable pub lookup_path : List ℕ → Volume → List ℕ → ℕ → Counted Inode
-lookup_path b v path s = pick (strict path) (walk_parts b v (root_of b v s) (parts_of path)) (after s (no PathNotUtf8))
+lookup_path b v path s = pick (strict path) (walk_parts b v (root_of b v s) (parts_of path)) (after s (Err PathNotUtf8))

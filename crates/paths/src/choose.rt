@@ -1,12 +1,11 @@
 // The entry of a directory that a part of a path names, chosen entry after entry.
 ghost use Rattle.std.specs.Prelude.{◌≡◌};
-ghost use Rattle.records.specs.Directory.{entry_told};
 ghost use Rattle.utf8.specs.Text.{lossy};
 ghost use Rattle.paths.specs.Inner.{none_yet, unless_exact, by_key, weighed, settled};
 
 use crate::compare::{is_wide, same_key};
 use error::Refusal;
-use records::{Entry, EntryRead};
+use records::Entry;
 use utf8::reads_as;
 use volume::{NameRule, insensitive};
 
@@ -21,6 +20,7 @@ pub enum Choice {
 }
 
 // The part's own test comes first, and a sensitive volume has no keys to compare.
+#[tactic(auto, unfolding(crate::specs::Inner::none_yet))]
 pub fn none_yet(rule: NameRule, part: &[u8]) -> Choice
     ensures { result ≡ none_yet rule part.now }
 {
@@ -33,6 +33,7 @@ pub fn none_yet(rule: NameRule, part: &[u8]) -> Choice
     Choice::No(Refusal::CharacterNotCovered)
 }
 
+#[tactic(auto, unfolding(crate::specs::Inner::unless_exact))]
 fn unless_exact(name: &[u8], part: &[u8], e: Entry, other: Choice) -> Choice
     ensures { result ≡ unless_exact (lossy name.now) part.now e other }
 {
@@ -42,6 +43,7 @@ fn unless_exact(name: &[u8], part: &[u8], e: Entry, other: Choice) -> Choice
     other
 }
 
+#[tactic(auto, using(crate::proofs::Chosen::key_wide, crate::proofs::Chosen::key_ascii))]
 fn by_key(rule: NameRule, name: &[u8], part: &[u8], e: Entry) -> Choice
     ensures { result ≡ by_key rule (lossy name.now) part.now e }
 {
@@ -55,25 +57,24 @@ fn by_key(rule: NameRule, name: &[u8], part: &[u8], e: Entry) -> Choice
 }
 
 // What is known after an entry.
+#[tactic(auto, unfolding(crate::specs::Inner::weighed))]
 pub fn weigh(rule: NameRule, choice: Choice, name: &[u8], part: &[u8], e: Entry) -> Choice
     ensures { result ≡ weighed rule (lossy name.now) part.now e choice }
 {
     match choice {
         Choice::Open => unless_exact(name, part, e, by_key(rule, name, part, e)),
         Choice::Exact(_) => choice,
-        Choice::Keyed(_) => unless_exact(name, part, e, choice),
-        Choice::No(_) => unless_exact(name, part, e, choice),
+        Choice::Keyed(_) | Choice::No(_) => unless_exact(name, part, e, choice),
     }
 }
 
 // What is known after the last entry.
-pub fn settle(choice: Choice) -> EntryRead
-    ensures { entry_told result ≡ settled choice }
+pub fn settle(choice: Choice) -> Result<Entry, Refusal>
+    ensures { result ≡ settled choice }
 {
     match choice {
-        Choice::Open => EntryRead::No(Refusal::NotFound),
-        Choice::Exact(e) => EntryRead::Got(e),
-        Choice::Keyed(e) => EntryRead::Got(e),
-        Choice::No(e) => EntryRead::No(e),
+        Choice::Open => Err(Refusal::NotFound),
+        Choice::Exact(e) | Choice::Keyed(e) => Ok(e),
+        Choice::No(e) => Err(e),
     }
 }

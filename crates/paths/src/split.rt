@@ -6,37 +6,35 @@ ghost use Rattle.paths.specs.Inner.{leading, next_part};
 use byte_fields::Span;
 
 // Paths split on / and on \.
+#[tactic(auto, unfolding(crate::specs::Parts::is_separator, error::specs::Answer::if_eq))]
 fn is_separator(b: u8) -> bool
     ensures { result ≡ is_separator b }
 {
-    if b == 47 {
-        return true;
-    }
-    b == 92
+    b == b'/' || b == b'\\'
 }
 
 // Where the separators that stand at `at` end, or the bytes that are none.
+#[tactic(auto, using(crate::proofs::Parts::past_done, crate::proofs::Parts::past_goes))]
 fn past(path: &[u8], at: usize, separators: bool) -> usize
     ensures { result ≡ at + leading separators (drop at path.now) }
 {
-    let mut i = at;
-    while i < path.len() {
+    for i in at..path.len() {
         if is_separator(path[i]) != separators {
             return i;
         }
-        i += 1;
     }
-    i
+    at.max(path.len())
 }
 
 // The next part from `at` on, empty where there is none.
+#[tactic(auto, using(crate::proofs::Parts::next_is))]
 pub fn next_part(path: &[u8], at: usize) -> Span
     ensures { result ≡ next_part path.now at }
 {
     let start = past(path, at, true);
     let end = past(path, start, false);
     Span {
-        start: start,
+        start,
         len: end - start,
     }
 }

@@ -1,9 +1,10 @@
 -- The bytes of a file and of an attribute, and the text of a symbolic link, by the inode's id: document 01, fs.rs, `read_at`, `read_xattr` and
 -- `read_link`.
 use Rattle.std.specs.Prelude.{ℕ, List, []}
-use Rattle.std.proofs.Math.Option.{Option, none, some}
-use Rattle.error.specs.Answer.{Answer, got}
-use Rattle.lookup.specs.Counted.{Counted, after, onto}
+use Rattle.std.specs.Prelude.{Option, None, Some}
+use Rattle.error.specs.Answer.{Answer, Ok}
+use Rattle.lookup.specs.declared.counted.Counted.{Counted}
+use Rattle.lookup.specs.Counted.{after, onto}
 use Rattle.volume.specs.declared.Volume.{Volume}
 use Rattle.volume.specs.declared.Which.{Which}
 use Rattle.records.specs.declared.attribute.Attribute.{Attribute}
@@ -37,8 +38,8 @@ abbrev pub link_text : List ℕ → Which → ℕ → Answer (List ℕ)
 link_text image w id = (link_counted image w id).answer
 
 abbrev pub xattr_show : List ℕ → Volume → Option Attribute → ℕ → Counted (List ℕ)
-xattr_show image v none s = after s (got [])
-xattr_show image v (some a) s = contents_of image v a s
+xattr_show image v None s = after s (Ok [])
+xattr_show image v (Some a) s = contents_of image v a s
 
 -- the bytes of the attribute at a place; "past its end is "none"": no bytes
 unfoldable pub xattr_on : List ℕ → Volume → ℕ → ℕ → ℕ → Counted (List ℕ)

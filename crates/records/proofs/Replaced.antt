@@ -3,9 +3,8 @@
 use Prim.Native.Nat.{ℕ}
 use mathlib.Core.Path.{◌≡◌, sym, ap}
 use mathlib.Core.List.{List}
-use native.Mathlib.Omega.{arith}
 use lib.ListN.{length}
-use Rattle.error.specs.Answer.{Answer, got}
+use Rattle.error.specs.Answer.{Answer, Ok}
 use Rattle.error.specs.declared.Refusal.TheVariants.{Corrupt}
 use Rattle.error.proofs.Laws.{got_is, bound, le_cases}
 use Rattle.byte_fields.specs.Number.{number_at}
@@ -22,21 +21,21 @@ use Rattle.records.specs.declared.attribute.Attribute.{Attribute}
 use Rattle.records.specs.declared.attribute.AttributeData.{AttributeData}
 
 -- where a part lies that is there
-span_is : (size off len : ℕ) (s : Span) → span_at Corrupt size off len ≡ got s → s ≡ record { start = off; len = len }
+span_is : (size off len : ℕ) (s : Span) → span_at Corrupt size off len ≡ Ok s → s ≡ record { start = off; len = len }
 unfolding span_at
 span_is size off len s =
-    le_cases (λ (a : Answer Span). a ≡ got s → s ≡ record { start = off; len = len }) (λ h e. sym (got_is _ s e)) (λ h e. absurd (let z : ◌≡◌ {A = ℕ} 0 1 = cc in omega arith))
+    le_cases (λ (a : Answer Span). a ≡ Ok s → s ≡ record { start = off; len = len }) (λ h e. sym (got_is _ s e)) (λ h e. cc)
 
-module _ (p : Place) (key : List ℕ) (len flags : ℕ) (d : AttributeData) (x : Attribute) (h : with_name p key len flags d ≡ got x) where
-  named : (s : Span) × ((span_at Corrupt (length key) 10 len ≡ got s) × (x.place ≡ p) × (x.name ≡ name_of key s))
+module _ (p : Place) (key : List ℕ) (len flags : ℕ) (d : AttributeData) (x : Attribute) (h : with_name p key len flags d ≡ Ok x) where
+  named : (s : Span) × ((span_at Corrupt (length key) 10 len ≡ Ok s) × (x.place ≡ p) × (x.name ≡ name_of key s))
   unfolding with_name
   named =
       let a = bound (span_at Corrupt (length key) 10 len) _ x h in
       let q = got_is _ x a.1.1 in
       (a.0, (a.1.0, sym (ap (λ (y : Attribute). y.place) q), sym (ap (λ (y : Attribute). y.name) q)))
 
-pub attribute_named_lem : (r : Reader) (b : List ℕ) (p : Place) (x : Attribute) → attribute_at r b p ≡ got x
-    → (n : ℕ) × ((number_at 2 (key_of r b p) 8 ≡ got n) × (attribute_name r b x ≡ up_to_zero (part_of (key_of r b p) (record { start = 10; len = n }))) × (x.name.replaced ≡ replaced (attribute_name r b x)))
+pub attribute_named_lem : (r : Reader) (b : List ℕ) (p : Place) (x : Attribute) → attribute_at r b p ≡ Ok x
+    → (n : ℕ) × ((number_at 2 (key_of r b p) 8 ≡ Ok n) × (attribute_name r b x ≡ up_to_zero (part_of (key_of r b p) (record { start = 10; len = n }))) × (x.name.replaced ≡ replaced (attribute_name r b x)))
 unfolding attribute_at attribute_of attribute_value attribute_name key_of value_of
 attribute_named_lem r b p x h =
     let key = key_of r b p in

@@ -1,7 +1,7 @@
 -- Extended attributes. Apple File System Reference, "File-System Objects", j_xattr_key_t and j_xattr_val_t, and "Data Streams", j_xattr_dstream_t; document 01,
 -- "Records": "Attribute flag 0x1 means a stream of object id and size, else the bytes follow"; the order of reading is that of fs.rs, `xattrs`.
 use Rattle.std.specs.Prelude.{ℕ, ◌%◌, List, length}
-use Rattle.error.specs.Answer.{Answer, got, no, ◌>>=◌, if_eq}
+use Rattle.error.specs.Answer.{Answer, Ok, ◌>>=◌, if_eq}
 use Rattle.error.specs.declared.Refusal.TheVariants.{Corrupt}
 use Rattle.byte_fields.specs.Number.{number_at}
 use Rattle.byte_fields.specs.Part.{part_of, span_at}
@@ -14,37 +14,25 @@ use Rattle.names.specs.Name.{name_of, name_bytes}
 use Rattle.records.specs.declared.attribute.Attribute.{Attribute}
 use Rattle.records.specs.declared.attribute.AttributeData.{AttributeData}
 use Rattle.records.specs.declared.attribute.AttributeData.TheVariants.{Embedded, Stream}
-use Rattle.records.specs.declared.attribute.AttributeRead.{AttributeRead}
-use Rattle.records.specs.declared.attribute.AttributeRead.TheVariants as read
-use Rattle.records.specs.declared.attribute.DataRead.{DataRead}
-use Rattle.records.specs.declared.attribute.DataRead.TheVariants as contents
-
-abbrev pub attribute_told : AttributeRead → Answer Attribute
-attribute_told (read.Got a) = got a
-attribute_told (read.No e) = no e
-
-abbrev pub data_told : DataRead → Answer AttributeData
-data_told (contents.Got d) = got d
-data_told (contents.No e) = no e
 
 -- xattr_obj_id, and the size that its dstream begins with
 unfoldable pub stream_in : List ℕ → Answer AttributeData
 stream_in b =
     number_at 8 b 0 >>= λ object.
     number_at 8 b 8 >>= λ size.
-    got (Stream (record { object = object; size = size }))
+    Ok (Stream (record { object = object; size = size }))
 
 -- xdata_len and xdata
 unfoldable pub data_in : List ℕ → ℕ → Answer AttributeData
 data_in value flags =
     number_at 2 value 2 >>= λ n.
     span_at Corrupt (length value) 4 n >>= λ s.
-    if_eq (flags % 2) 1 (stream_in (part_of value s)) (got (Embedded s))
+    if_eq (flags % 2) 1 (stream_in (part_of value s)) (Ok (Embedded s))
 
 unfoldable pub with_name : Place → List ℕ → ℕ → ℕ → AttributeData → Answer Attribute
 with_name p key n flags d =
     span_at Corrupt (length key) 10 n >>= λ s.
-    got (record { place = p; name = name_of key s; flags = flags; contents = d })
+    Ok (record { place = p; name = name_of key s; flags = flags; contents = d })
 
 -- name_len, flags, the contents, and the name last
 unfoldable pub attribute_value : Place → List ℕ → List ℕ → Answer Attribute

@@ -1,6 +1,6 @@
 -- Directory entries. Apple File System Reference, "File-System Objects", j_drec_key_t, j_drec_hashed_key_t and j_drec_val_t; document 01, "Records".
 use Rattle.std.specs.Prelude.{ℕ, ◌+◌, ◌-◌, ◌%◌, Bool, List, length}
-use Rattle.error.specs.Answer.{Answer, got, no, ◌>>=◌, pick, if_eq}
+use Rattle.error.specs.Answer.{Answer, Ok, Err, ◌>>=◌, pick, if_eq}
 use Rattle.error.specs.declared.Refusal.TheVariants.{Corrupt}
 use Rattle.byte_fields.specs.Number.{number_at}
 use Rattle.byte_fields.specs.Part.{part_of, up_to_zero}
@@ -11,12 +11,6 @@ use Rattle.obj.specs.Block.{block_of}
 use Rattle.node.specs.Place.{key_span, value_span, key_of}
 use Rattle.node.specs.declared.place.Place.{Place}
 use Rattle.records.specs.declared.directory.Entry.{Entry}
-use Rattle.records.specs.declared.directory.EntryRead.{EntryRead}
-use Rattle.records.specs.declared.directory.EntryRead.TheVariants.{Got, No}
-
-abbrev pub entry_told : EntryRead → Answer Entry
-entry_told (Got e) = got e
-entry_told (No e) = no e
 
 -- the bytes of a key from a place on
 abbrev pub rest_from : List ℕ → ℕ → Span
@@ -24,11 +18,11 @@ rest_from key n = record { start = n; len = length key - n }
 
 -- j_drec_hashed_key_t: name_len_and_hash, of which the low 10 bits are the name's length (J_DREC_LEN_MASK), then the name
 unfoldable pub hashed_name : List ℕ → Answer Span
-hashed_name key = number_at 4 key 8 >>= λ h. if_eq (length key) (12 + h % 1024) (got (rest_from key 12)) (no Corrupt)
+hashed_name key = number_at 4 key 8 >>= λ h. if_eq (length key) (12 + h % 1024) (Ok (rest_from key 12)) (Err Corrupt)
 
 -- j_drec_key_t: name_len, then the name
 unfoldable pub plain_name : List ℕ → Answer Span
-plain_name key = number_at 2 key 8 >>= λ n. if_eq (length key) (10 + n) (got (rest_from key 10)) (no Corrupt)
+plain_name key = number_at 2 key 8 >>= λ n. if_eq (length key) (10 + n) (Ok (rest_from key 10)) (Err Corrupt)
 
 -- document 02, request 03: "A key of the other form, or whose length disagrees with its own count, is 2"
 unfoldable pub name_in : Bool → List ℕ → Answer Span
@@ -40,7 +34,7 @@ entry_value p name value =
     number_at 8 value 0 >>= λ id.
     number_at 8 value 8 >>= λ date.
     number_at 2 value 16 >>= λ flags.
-    got (record { place = p; name = name; file_id = id; date_added = date; kind = flags % 16 })
+    Ok (record { place = p; name = name; file_id = id; date_added = date; kind = flags % 16 })
 
 -- the entry of a record in the block b, the name before the value (fs.rs, `read_dir`)
 unfoldable pub entry_of : Bool → List ℕ → Place → Answer Entry

@@ -1,6 +1,6 @@
 -- File extents. Apple File System Reference, "Data Streams", j_file_extent_key_t and j_file_extent_val_t; fs.rs, `extents`.
 use Rattle.std.specs.Prelude.{ℕ, ◌%◌, ◌^◌, List}
-use Rattle.error.specs.Answer.{Answer, got, no, ◌>>=◌}
+use Rattle.error.specs.Answer.{Answer, Ok, ◌>>=◌}
 use Rattle.byte_fields.specs.Number.{number_at}
 use Rattle.byte_fields.specs.Part.{part_of}
 use Rattle.obj.specs.Block.{block_of}
@@ -8,12 +8,6 @@ use Rattle.obj.specs.declared.reader.Reader.{Reader}
 use Rattle.node.specs.Place.{key_span, value_span}
 use Rattle.node.specs.declared.place.Place.{Place}
 use Rattle.records.specs.declared.extent.Extent.{Extent}
-use Rattle.records.specs.declared.extent.ExtentRead.{ExtentRead}
-use Rattle.records.specs.declared.extent.ExtentRead.TheVariants.{Got, No}
-
-abbrev pub extent_told : ExtentRead → Answer Extent
-extent_told (Got e) = got e
-extent_told (No e) = no e
 
 -- logical_addr; the length in the low 56 bits of len_and_flags (J_FILE_EXTENT_LEN_MASK); phys_block_num
 unfoldable pub extent_in : List ℕ → List ℕ → Answer Extent
@@ -21,7 +15,7 @@ extent_in key value =
     number_at 8 key 8 >>= λ logical.
     number_at 8 value 0 >>= λ flags.
     number_at 8 value 8 >>= λ phys_block.
-    got (record { logical = logical; len = flags % 2 ^ 56; phys_block = phys_block })
+    Ok (record { logical = logical; len = flags % 2 ^ 56; phys_block = phys_block })
 
 -- the extent of a record in the block b
 unfoldable pub extent_of : List ℕ → Place → Answer Extent

@@ -6,8 +6,7 @@ mod directory;
 mod extent;
 
 pub use attribute::{
-    Attribute, AttributeData, AttributeRead, StreamData, attribute_bytes, attribute_name,
-    attribute_of,
+    Attribute, AttributeData, StreamData, attribute_bytes, attribute_name, attribute_of,
 };
-pub use directory::{Entry, EntryRead, entry_name, entry_of, entry_replaced};
-pub use extent::{Extent, ExtentRead, extent_of};
+pub use directory::{Entry, entry_name, entry_of, entry_replaced};
+pub use extent::{Extent, extent_of};

@@ -3,58 +3,54 @@ use Prim.Native.Nat.{ℕ}
 use mathlib.Core.Path.{◌≡◌, refl, sym, ap, ◌∙◌}
 use mathlib.Core.List.{List, []}
 use native.Mathlib.Omega.{arith}
-use Rattle.error.specs.Answer.{Answer, got, no, ◌>>=◌, if_eq}
+use Rattle.error.specs.Answer.{Answer, Ok, Err, ◌>>=◌, if_eq}
 use Rattle.error.specs.declared.Refusal.{Refusal}
 use Rattle.error.proofs.Laws.{same, other}
-use Rattle.byte_fields.specs.Number.{told}
-use Rattle.byte_fields.specs.declared.Number.{Number}
 use Rattle.utf8.specs.Text.{Reading}
-use Rattle.text.specs.declared.Position.TheVariants.{No}
-use Rattle.lookup.specs.Counted.{Counted, after, onto}
+use Rattle.lookup.specs.declared.counted.Counted.{Counted}
+use Rattle.lookup.specs.Counted.{after, onto}
 use Rattle.names.specs.declared.Name.{Name}
 use Rattle.volume.specs.declared.Volume.{Volume}
-use Rattle.inode_record.specs.declared.fields.NameField.{NameField}
-use Rattle.inode_record.specs.declared.fields.NameField.TheVariants as name
 use Rattle.inode_record.specs.declared.inode.Inode.{Inode}
-use Rattle.links.specs.Link.{link_reading, replaced_of, numbered}
+use Rattle.links.specs.Link.{link_reading, replaced_of}
 use Rattle.calls.specs.Filled.{Filled, filled, filled_at, Answered, answered}
-use Rattle.calls.specs.declared.Written.{Written}
 use Rattle.calls.proofs.Steps.{elements, with_nodes}
 use Rattle.replaced_line.specs.Line.{replaced_line, name_line, target_on}
+use Rattle.std.specs.Prelude.{None, Option, Some}
 
-module _ (f : NameField) (b : List ℕ) (z : Filled) where
-  pub name_none : f ≡ name.Absent → z ≡ filled [] b → z ≡ filled (name_line f) b
+module _ (f : Option Name) (b : List ℕ) (z : Filled) where
+  pub name_none : f ≡ None → z ≡ filled [] b → z ≡ filled (name_line f) b
   name_none e h = rw e h
 
-  pub name_some : (n : Name) → f ≡ name.At n → z ≡ filled (replaced_line n.replaced []) b → z ≡ filled (name_line f) b
+  pub name_some : (n : Name) → f ≡ Some n → z ≡ filled (replaced_line n.replaced []) b → z ≡ filled (name_line f) b
   name_some n e h = rw e h
 
-module _ (image : List ℕ) (v : Volume) (i : Inode) (s : ℕ) (b : List ℕ) (r : Written) (p : numbered r ≡ replaced_of (link_reading image v i s)) where
+module _ (image : List ℕ) (v : Volume) (i : Inode) (s : ℕ) (b : List ℕ) (r : Counted ℕ) (p : r ≡ replaced_of (link_reading image v i s)) where
   counted : r.nodes ≡ (link_reading image v i s).nodes
   counted = ap (λ (c : Counted ℕ). c.nodes) p
 
-  number : (n : Number) → r.count ≡ n → told n ≡ ((link_reading image v i s).answer >>= λ x. got x.replaced)
-  number n q = ap told (sym q) ∙ ap (λ (c : Counted ℕ). c.answer) p
+  number : (n : Answer ℕ) → r.answer ≡ n → n ≡ ((link_reading image v i s).answer >>= λ x. Ok x.replaced)
+  number n q = (sym q) ∙ ap (λ (c : Counted ℕ). c.answer) p
 
   -- by what the link reads as
   abbrev by : ℕ → Answer Reading → Answered
-  by m a = answered (onto (after m a) λ x t. after t (got (replaced_line x.replaced []))) b
+  by m a = answered (onto (after m a) λ x t. after t (Ok (replaced_line x.replaced []))) b
 
-  pub target_got : (n : ℕ) (z : Filled) → r.count ≡ Number.Got n → z ≡ filled (replaced_line n []) b → record { nodes = r.nodes; result = z } ≡ answered (target_on image v i s) b
+  pub target_got : (n : ℕ) (z : Filled) → r.answer ≡ Ok n → z ≡ filled (replaced_line n []) b → record { nodes = r.nodes; result = z } ≡ answered (target_on image v i s) b
   unfolding target_on
   target_got n z q h = rw counted (of (link_reading image v i s).nodes (link_reading image v i s).answer (number _ q))
     where
-      of : (m : ℕ) (a : Answer Reading) → got n ≡ (a >>= λ x. got x.replaced) → record { nodes = m; result = z } ≡ by m a
-      of m (got x) e = let k : n ≡ x.replaced = cc in rw (← k) (with_nodes m z _ h)
-      of m (no w) e = absurd (let k : ◌≡◌ {A = ℕ} 0 1 = cc in omega arith)
+      of : (m : ℕ) (a : Answer Reading) → Ok n ≡ (a >>= λ x. Ok x.replaced) → record { nodes = m; result = z } ≡ by m a
+      of m (Ok x) e = let k : n ≡ x.replaced = cc in rw (← k) (with_nodes m z _ h)
+      of m (Err w) e = absurd (let k : ◌≡◌ {A = ℕ} 0 1 = cc in omega arith)
 
-  pub target_no : (w : Refusal) → r.count ≡ Number.No w → record { nodes = r.nodes; result = filled_at (No w) b } ≡ answered (target_on image v i s) b
+  pub target_no : (w : Refusal) → r.answer ≡ Err w → record { nodes = r.nodes; result = filled_at (Err w) b } ≡ answered (target_on image v i s) b
   unfolding target_on
   target_no w q = rw counted (of (link_reading image v i s).nodes (link_reading image v i s).answer (number _ q))
     where
-      of : (m : ℕ) (a : Answer Reading) → no w ≡ (a >>= λ x. got x.replaced) → record { nodes = m; result = filled_at (No w) b } ≡ by m a
-      of m (got x) e = absurd (let k : ◌≡◌ {A = ℕ} 0 1 = cc in omega arith)
-      of m (no u) e = let k : w ≡ u = cc in rw k
+      of : (m : ℕ) (a : Answer Reading) → Err w ≡ (a >>= λ x. Ok x.replaced) → record { nodes = m; result = filled_at (Err w) b } ≡ by m a
+      of m (Ok x) e = absurd (let k : ◌≡◌ {A = ℕ} 0 1 = cc in omega arith)
+      of m (Err u) e = let k : w ≡ u = cc in rw k
 
 -- by the kind
 module _ (kind k : ℕ) (x y : Counted (List ℕ)) (b : List ℕ) (z : Answered) where

@@ -5,11 +5,10 @@ ghost use Rattle.replaced_line.specs.Line.{replaced_on, replaced_counted};
 
 use crate::kinds::{attribute_on, entry_on, inode_on, link_on};
 use crate::line::show;
-use calls::Progress;
 use error::Refusal;
 use label::label_replaced;
-use text::Position;
-use volume::{Volume, VolumeOpening, Which, open_at};
+use lookup::Counted;
+use volume::{Volume, Which, open_at};
 
 fn replaced_on(
     image: &[u8],
@@ -19,12 +18,12 @@ fn replaced_on(
     place: u64,
     nodes: u64,
     out: &mut [u8],
-) -> Progress
+) -> Counted<usize>
     ensures { called_by result out.new ≡ answered (replaced_on image.now v kind id place nodes) out.old }
 {
     if kind == 0 {
-        return Progress {
-            at: show(label_replaced(image, v), out),
+        return Counted {
+            answer: show(label_replaced(image, v), out),
             nodes: nodes,
         };
     }
@@ -40,8 +39,8 @@ fn replaced_on(
     if kind == 4 {
         return link_on(image, v, id, nodes, out);
     }
-    Progress {
-        at: Position::No(Refusal::NotFound),
+    Counted {
+        answer: Err(Refusal::NotFound),
         nodes: nodes,
     }
 }
@@ -53,15 +52,15 @@ pub fn replaced_text(
     id: u64,
     place: u64,
     out: &mut [u8],
-) -> Progress
+) -> Counted<usize>
     ensures { called_by result out.new ≡ answered (replaced_counted image.now which kind id place) out.old }
 {
     let opened = open_at(image, which);
-    let volume = opened.volume;
+    let volume = opened.answer;
     match volume {
-        VolumeOpening::Got(v) => replaced_on(image, v, kind, id, place, opened.nodes, out),
-        VolumeOpening::No(w) => Progress {
-            at: Position::No(w),
+        Ok(v) => replaced_on(image, v, kind, id, place, opened.nodes, out),
+        Err(w) => Counted {
+            answer: Err(w),
             nodes: opened.nodes,
         },
     }

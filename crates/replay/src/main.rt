@@ -4,8 +4,6 @@
 // little-endian. Op 0 ends the file.
 #![tactic(auto)]
 
-use byte_fields::Number;
-
 const HEAD: usize = 29;
 
 // A record's numbers, and where its input lies in the file.
@@ -36,13 +34,6 @@ struct Tally {
     whole: bool,
 }
 
-fn value(n: Number) -> u64 {
-    match n {
-        Number::Got(x) => x,
-        Number::No(_) => 0,
-    }
-}
-
 fn one_more(n: u64) -> u64 {
     if n < 18446744073709551615 { n + 1 } else { n }
 }
@@ -58,16 +49,16 @@ fn record_at(file: &[u8], at: usize) -> Step {
     if file.len() - at < HEAD {
         return Step::Broken;
     }
-    let len = value(byte_fields::u32_at(file, at + 25)) as usize;
+    let len = byte_fields::u32_at(file, at + 25).unwrap_or(0) as usize;
     let start = at + HEAD;
     if file.len() - start < len {
         return Step::Broken;
     }
     Step::Record(Record {
         op: op,
-        a: value(byte_fields::u64_at(file, at + 1)),
-        b: value(byte_fields::u64_at(file, at + 9)),
-        expected: value(byte_fields::u64_at(file, at + 17)),
+        a: byte_fields::u64_at(file, at + 1).unwrap_or(0),
+        b: byte_fields::u64_at(file, at + 9).unwrap_or(0),
+        expected: byte_fields::u64_at(file, at + 17).unwrap_or(0),
         start: start,
         end: start + len,
     })

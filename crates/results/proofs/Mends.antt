@@ -8,13 +8,13 @@ use lib.IntN.{ℤ}
 use lib.ListN.{length}
 use mir.Syntax.{w64}
 use mir.Val.{to_z, of_z}
-use Rattle.text.specs.declared.Position.{Position}
 use Rattle.calls.specs.Filled.{filled_at}
 use Rattle.wrong_word.specs.Mends.{Mend, listed, mends_in}
 use Rattle.results.specs.Call.{number, result_at, Within}
 use Rattle.results.proofs.Entries.{entries_within, counted_result, counted_buffer}
+use Rattle.error.specs.Answer.{Answer}
 
-module _ (ms : List Mend) (b x : List ℕ) (r : Position) (p : filled_at r x ≡ mends_in ms b) (s : length b * 1 < 2 ^ 63) where
+module _ (ms : List Mend) (b x : List ℕ) (r : Answer ℕ) (p : filled_at r x ≡ mends_in ms b) (s : length b * 1 < 2 ^ 63) where
   pub mends_within : Within r
   unfolding mends_in
   mends_within = entries_within 12 (length ms) (listed ms) b x r (omega arith) s p

@@ -10,15 +10,12 @@ use lib.ListN.{length}
 use mir.Syntax.{w64}
 use mir.Val.{SFits, to_z, of_z}
 use mir.Facts.{to_z-of_z}
-use Rattle.error.specs.Answer.{Answer, got, no, number_of}
+use Rattle.error.specs.Answer.{Answer, Ok, Err, number_of}
 use Rattle.error.specs.declared.Refusal.{Refusal}
 use Rattle.error.specs.declared.Refusal.TheVariants.{Io, Corrupt, Unsupported, NotFound, PathNotUtf8, BufferTooShort, ImageTooLarge, Overflow, CharacterNotCovered, TooDeep, NoPartitionTable, NoPartition, NoCheckpoint, TooLong, NotAListing, Contradiction, NoRoom, BadSeed}
 use Rattle.error.proofs.Laws.{le_cases}
-use Rattle.text.specs.declared.Position.{Position}
-use Rattle.text.specs.declared.Position.TheVariants.{At, No}
-use Rattle.lookup.specs.Counted.{Counted}
+use Rattle.lookup.specs.declared.counted.Counted.{Counted}
 use Rattle.calls.specs.Filled.{Filled, filled, filled_by, filled_at, Answered, answered, called_by}
-use Rattle.calls.specs.declared.Progress.{Progress}
 use Rattle.results.specs.Call.{minus, number, result_of, buffer_of, result_at, Within}
 
 -- a refusal's number as an i64
@@ -57,32 +54,32 @@ module _ (n : ℕ) (h : n < 256) where
   pub minus_is : (e : Refusal) → n ≡ number_of e → to_z w64 (of_z w64 (pos 0 -ℤ to_z w64 n)) ≡ minus (number_of e)
   minus_is e q = to_z-of_z {w = w64} minus_fits ∙ rw (lt-ltb n (2 ^ 63) (omega arith), q)
 
-pub result_back : (p : Position) → Within p → to_z w64 (of_z w64 (result_at p)) ≡ result_at p
-result_back (At n) h = to_z-of_z {w = w64} (sfits_of h)
-result_back (No e) h = minus_back e
+pub result_back : (p : Answer ℕ) → Within p → to_z w64 (of_z w64 (result_at p)) ≡ result_at p
+result_back (Ok n) h = to_z-of_z {w = w64} (sfits_of h)
+result_back (Err e) h = minus_back e
 
-module _ (p : Position) where
-  pub count_fits : (n : ℕ) → Within p → p ≡ At n → SFits w64 (pos n)
+module _ (p : Answer ℕ) where
+  pub count_fits : (n : ℕ) → Within p → p ≡ Ok n → SFits w64 (pos n)
   count_fits n h q = sfits_of (rw q at h)
 
-  pub count_is : (n : ℕ) → Within p → p ≡ At n → to_z w64 n ≡ result_at p
+  pub count_is : (n : ℕ) → Within p → p ≡ Ok n → to_z w64 n ≡ result_at p
   count_is n h q = let k : n < 2 ^ 63 = rw q at h in rw (q, lt-ltb n (2 ^ 63) k)
 
-  pub refusal_is : (e : Refusal) (x : ℤ) → x ≡ minus (number_of e) → p ≡ No e → to_z w64 (of_z w64 x) ≡ result_at p
+  pub refusal_is : (e : Refusal) (x : ℤ) → x ≡ minus (number_of e) → p ≡ Err e → to_z w64 (of_z w64 x) ≡ result_at p
   refusal_is e x h q = rw q (refused_is e x h)
 
 -- the count of a call that answered lies within its buffer
-module _ (a : Answer (List ℕ)) (b x : List ℕ) (r : Position) (p : filled_at r x ≡ filled_by a b) (s : length b * 1 < 2 ^ 63) where
+module _ (a : Answer (List ℕ)) (b x : List ℕ) (r : Answer ℕ) (p : filled_at r x ≡ filled_by a b) (s : length b * 1 < 2 ^ 63) where
   pub call_within : Within r
   unfolding filled
   call_within = of r a (ap (λ (m : Filled). m.answer) p)
     where
-      of : (r : Position) (a : Answer (List ℕ)) → (filled_at r x).answer ≡ (filled_by a b).answer → Within r
-      of (At n) (got t) =
-          le_cases (λ (m : Filled). got n ≡ m.answer → n < 2 ^ 63) (λ h e. let q : n ≡ length t = cc in omega arith)
+      of : (r : Answer ℕ) (a : Answer (List ℕ)) → (filled_at r x).answer ≡ (filled_by a b).answer → Within r
+      of (Ok n) (Ok t) =
+          le_cases (λ (m : Filled). Ok n ≡ m.answer → n < 2 ^ 63) (λ h e. let q : n ≡ length t = cc in omega arith)
           (λ h e. absurd (let z : ◌≡◌ {A = ℕ} 0 1 = cc in omega arith))
-      of (At n) (no w) = λ e. absurd (let z : ◌≡◌ {A = ℕ} 0 1 = cc in omega arith)
-      of (No e) a = λ e. tt
+      of (Ok n) (Err w) = λ e. absurd (let z : ◌≡◌ {A = ℕ} 0 1 = cc in omega arith)
+      of (Err e) a = λ e. tt
 
   pub call_result : (z : ℤ) → z ≡ result_at r → to_z w64 (of_z w64 z) ≡ result_of a b
   call_result z e = rw e (result_back r call_within ∙ ap (λ (m : Filled). number m.answer) p)
@@ -91,15 +88,15 @@ module _ (a : Answer (List ℕ)) (b x : List ℕ) (r : Position) (p : filled_at 
   call_buffer = ap (λ (m : Filled). m.buffer) p
 
 -- the same of a call that counts its nodes
-module _ (c : Counted (List ℕ)) (b x : List ℕ) (r : Progress) (p : called_by r x ≡ answered c b) where
-  without_nodes : filled_at r.at x ≡ filled_by c.answer b
+module _ (c : Counted (List ℕ)) (b x : List ℕ) (r : Counted ℕ) (p : called_by r x ≡ answered c b) where
+  without_nodes : filled_at r.answer x ≡ filled_by c.answer b
   without_nodes = ap (λ (m : Answered). m.result) p
 
-  pub progress_within : length b * 1 < 2 ^ 63 → Within r.at
-  progress_within s = call_within c.answer b x r.at without_nodes s
+  pub progress_within : length b * 1 < 2 ^ 63 → Within r.answer
+  progress_within s = call_within c.answer b x r.answer without_nodes s
 
-  pub progress_result : length b * 1 < 2 ^ 63 → (z : ℤ) → z ≡ result_at r.at → to_z w64 (of_z w64 z) ≡ result_of c.answer b
-  progress_result s z e = call_result c.answer b x r.at without_nodes s z e
+  pub progress_result : length b * 1 < 2 ^ 63 → (z : ℤ) → z ≡ result_at r.answer → to_z w64 (of_z w64 z) ≡ result_of c.answer b
+  progress_result s z e = call_result c.answer b x r.answer without_nodes s z e
 
   pub progress_buffer : x ≡ buffer_of c.answer b
   progress_buffer = ap (λ (m : Filled). m.buffer) without_nodes

@@ -9,7 +9,7 @@ use mathlib.Core.Bool.{Bool, true, false}
 use lib.Dec.{leb}
 use lib.ListN.{length, take, drop, replicate, length-take, length-drop, length-append, length-replicate}
 use lib.Seq.{drop-drop, take-add}
-use Rattle.error.specs.Answer.{Answer, got, no, ◌>>=◌, if_le, pick}
+use Rattle.error.specs.Answer.{Answer, Ok, Err, ◌>>=◌, if_le, pick}
 use Rattle.error.specs.declared.Refusal.{Refusal}
 use Rattle.error.specs.declared.Refusal.TheVariants.{Corrupt}
 use Rattle.error.proofs.Laws.{at_most_lem, above, same, other, bound}
@@ -35,11 +35,11 @@ blocks_whole bs c pos =
     rw e (add-mul-div_right (bs - 1) c pos ∙ rw (div-eq_of_lt f, zero-add))
 
 module _ (d : Disk) (p n : ℕ) where
-  piece_none : n ≤ 0 → piece d p n ≡ got []
+  piece_none : n ≤ 0 → piece d p n ≡ Ok []
   unfolding piece
   piece_none h = sym (at_most_lem _ _ _ _ _ h refl)
 
-  piece_is : 0 < n → piece d p n ≡ (lies d p (p + blocks d.block n) >> got (take n (drop (p * d.block) d.image)))
+  piece_is : 0 < n → piece d p n ≡ (lies d p (p + blocks d.block n) >> Ok (take n (drop (p * d.block) d.image)))
   unfolding piece
   piece_is h = sym (above _ _ _ _ _ h refl)
 
@@ -59,7 +59,7 @@ lies_split d p q r x small h = go (le_or_gt (p * d.block) top) (le_or_gt (q * d.
 
 -- c whole blocks, then n bytes
 piece_join : (d : Disk) (p c n : ℕ) → 0 < d.block → length d.image ≤ top → 0 < n
-    → (lies d p (p + c) >> (piece d (p + c) n >>= λ y. got (take (c * d.block) (drop (p * d.block) d.image) ++ y))) ≡ piece d p (n + c * d.block)
+    → (lies d p (p + c) >> (piece d (p + c) n >>= λ y. Ok (take (c * d.block) (drop (p * d.block) d.image) ++ y))) ≡ piece d p (n + c * d.block)
 piece_join d p c n pos small h =
     let bs : ℕ = d.block in
     let f : (p + c) * bs ≡ p * bs + c * bs = omega arith in
@@ -71,21 +71,21 @@ piece_join d p c n pos small h =
       piece_is d (p + c) n h,
       after_bind (lies d (p + c) (p + c + blocks bs n)),
       j,
-      lies_split d p (p + c) (p + c + blocks bs n) (got (take (n + c * bs) (drop (p * bs) d.image))) small (omega arith),
+      lies_split d p (p + c) (p + c + blocks bs n) (Ok (take (n + c * bs) (drop (p * bs) d.image))) small (omega arith),
       piece_is d p (n + c * bs) (omega arith),
       blocks_add bs c n pos,
       g,
     )
 
 module _ (d : Disk) (c : ℕ) where
-  chunks_end : (k p want : ℕ) → chunks d c k p want want ≡ got []
+  chunks_end : (k p want : ℕ) → chunks d c k p want want ≡ Ok []
   unfolding chunks
   chunks_end zero p want = refl
   chunks_end (suc k) p want = sym (at_most_lem _ _ _ _ _ (omega arith) refl)
 
   chunks_turn : (k p done want q n : ℕ) → done < want → q ≡ p + done / d.block → n ≡ min (want - done) (c * d.block)
       → chunks d c (suc k) p done want
-      ≡ (lies d q (q + blocks d.block n) >> (chunks d c k p (done + n) want >>= λ y. got (take n (drop (q * d.block) d.image) ++ y)))
+      ≡ (lies d q (q + blocks d.block n) >> (chunks d c k p (done + n) want >>= λ y. Ok (take n (drop (q * d.block) d.image) ++ y)))
   unfolding chunks
   chunks_turn k p done want q n h e f = rw (e, f) (sym (above _ _ _ _ _ h refl))
 
@@ -148,7 +148,7 @@ copy_chunks d c size es h small = chunks_same d c (some (le_or_gt d.block 0)) (f
 -- ---- how long an answer is
 
 module _ (d : Disk) (pos : 0 < d.block) where
-  pub piece_length : (p n : ℕ) (xs : List ℕ) → piece d p n ≡ got xs → length xs ≡ n
+  pub piece_length : (p n : ℕ) (xs : List ℕ) → piece d p n ≡ Ok xs → length xs ≡ n
   unfolding piece
   piece_length p n xs e = go (le_or_gt n 0)
     where
@@ -159,7 +159,7 @@ module _ (d : Disk) (pos : 0 < d.block) where
           let q : xs ≡ take n (drop (p * d.block) d.image) = cc u.1 in
           rw q (simp (length-take, length-drop) (omega (arith, lies_within d _ _ u.0, blocks_hold d.block pos n)))
 
-  pub fetch_length : (e : Extent) (n : ℕ) (xs : List ℕ) → fetch (piece d) d e n ≡ got xs → length xs ≡ n
+  pub fetch_length : (e : Extent) (n : ℕ) (xs : List ℕ) → fetch (piece d) d e n ≡ Ok xs → length xs ≡ n
   unfolding fetch
   fetch_length e n xs w = go (le_or_gt e.phys_block 0)
     where
@@ -167,7 +167,7 @@ module _ (d : Disk) (pos : 0 < d.block) where
       go (inl h) = let q : xs ≡ replicate n 0 = cc (was_same _ _ _ _ _ (omega arith) w) in rw q (length-replicate n 0)
       go (inr h) = piece_length e.phys_block n xs (went (counted d e) _ _ (was_other _ _ _ _ _ (λ q. omega arith) w)).1
 
-  pub stream_length : (size at : ℕ) (es : List Extent) (bs : List ℕ) → at ≤ size → stream_by (piece d) d size at es ≡ got bs → length bs ≡ size - at
+  pub stream_length : (size at : ℕ) (es : List Extent) (bs : List ℕ) → at ≤ size → stream_by (piece d) d size at es ≡ Ok bs → length bs ≡ size - at
   unfolding stream_by
   stream_length size at [] bs h w = let q : bs ≡ replicate (size - at) 0 = cc in rw q (length-replicate (size - at) 0)
   stream_length size at (e ∷ es) bs h w = go (le_or_gt size at) (stream_length size (a + n) es)
@@ -178,7 +178,7 @@ module _ (d : Disk) (pos : 0 < d.block) where
       n : ℕ
       n = min e.len (size - a)
 
-      go : (size ≤ at) ⊎ (at < size) → ((cs : List ℕ) → a + n ≤ size → stream_by (piece d) d size (a + n) es ≡ got cs → length cs ≡ size - (a + n)) → length bs ≡ size - at
+      go : (size ≤ at) ⊎ (at < size) → ((cs : List ℕ) → a + n ≤ size → stream_by (piece d) d size (a + n) es ≡ Ok cs → length cs ≡ size - (a + n)) → length bs ≡ size - at
       go (inl k) ih = let q : bs ≡ [] = cc (was_most _ _ _ _ _ k w) in rw q (omega arith)
       go (inr k) ih =
           let u = passed _ _ _ _ _ (was_above _ _ _ _ _ k w) in
@@ -191,7 +191,7 @@ module _ (d : Disk) (pos : 0 < d.block) where
 
 module _ (d : Disk) (e : Extent) (n : ℕ) where
   module _ (h : e.phys_block ≡ 0) where
-    fetch_sparse : fetch (piece d) d e n ≡ got (replicate n 0)
+    fetch_sparse : fetch (piece d) d e n ≡ Ok (replicate n 0)
     unfolding fetch
     fetch_sparse = sym (same _ _ _ _ _ h refl)
 
@@ -216,40 +216,40 @@ module _ (d : Disk) (e : Extent) (n : ℕ) where
     unfolding taken
     taken_real = sym (other _ _ _ _ _ h refl)
 
-  piece_two : piece d e.phys_block n ≡ (if_le n 0 fine (lies d e.phys_block (e.phys_block + blocks d.block n)) >> got (take n (drop (e.phys_block * d.block) d.image)))
+  piece_two : piece d e.phys_block n ≡ (if_le n 0 fine (lies d e.phys_block (e.phys_block + blocks d.block n)) >> Ok (take n (drop (e.phys_block * d.block) d.image)))
   piece_two = go (le_or_gt n 0)
     where
       v : Verdict
       v = lies d e.phys_block (e.phys_block + blocks d.block n)
 
-      go : (n ≤ 0) ⊎ (0 < n) → piece d e.phys_block n ≡ (if_le n 0 fine v >> got (take n (drop (e.phys_block * d.block) d.image)))
+      go : (n ≤ 0) ⊎ (0 < n) → piece d e.phys_block n ≡ (if_le n 0 fine v >> Ok (take n (drop (e.phys_block * d.block) d.image)))
       go (inl u) = let q : n ≡ 0 = omega arith in rw (piece_none d e.phys_block n u, sym (at_most_lem n 0 fine v _ u refl), q)
       go (inr u) = rw (piece_is d e.phys_block n u, sym (above n 0 fine v _ u refl))
 
-  fetch_two : fetch (piece d) d e n ≡ (ready d e n >> got (taken d e n))
+  fetch_two : fetch (piece d) d e n ≡ (ready d e n >> Ok (taken d e n))
   fetch_two = go (le_or_gt e.phys_block 0)
     where
-      go : (e.phys_block ≤ 0) ⊎ (0 < e.phys_block) → fetch (piece d) d e n ≡ (ready d e n >> got (taken d e n))
+      go : (e.phys_block ≤ 0) ⊎ (0 < e.phys_block) → fetch (piece d) d e n ≡ (ready d e n >> Ok (taken d e n))
       go (inl h) = let q : e.phys_block ≡ 0 = omega arith in rw (fetch_sparse q, ready_sparse q, taken_sparse q)
       go (inr h) =
           let q : e.phys_block ≡ 0 → ⊥ = omega arith in
           rw (fetch_real q, ready_real q, taken_real q, piece_two, assoc (counted d e))
 
-two : {A B C : Type 0} (v w : Verdict) (x : A) (y : B) (f : A → B → C) → ((v >> got x) >>= λ s. (w >> got y) >>= λ t. got (f s t)) ≡ ((v >> w) >> got (f x y))
-two (got a) (got b) x y f = refl
-two (got a) (no r) x y f = refl
-two (no r) w x y f = refl
+two : {A B C : Type 0} (v w : Verdict) (x : A) (y : B) (f : A → B → C) → ((v >> Ok x) >>= λ s. (w >> Ok y) >>= λ t. Ok (f s t)) ≡ ((v >> w) >> Ok (f x y))
+two (Ok a) (Ok b) x y f = refl
+two (Ok a) (Err r) x y f = refl
+two (Err r) w x y f = refl
 
-gate : (a b c : ℕ) (r : Refusal) (x : Answer (List ℕ)) (v : Verdict) (y : List ℕ) → x ≡ (v >> got y) → if_le a b (got []) (at_most b c r x) ≡ (if_le a b fine (at_most b c r v) >> got (if_le a b [] y))
+gate : (a b c : ℕ) (r : Refusal) (x : Answer (List ℕ)) (v : Verdict) (y : List ℕ) → x ≡ (v >> Ok y) → if_le a b (Ok []) (at_most b c r x) ≡ (if_le a b fine (at_most b c r v) >> Ok (if_le a b [] y))
 unfolding if_le
 gate a b c r x v y h = go (leb a b) (leb b c)
   where
-    go : (t u : Bool) → pick t (got []) (pick u x (no r)) ≡ (pick t fine (pick u v (no r)) >> got (pick t [] y))
+    go : (t u : Bool) → pick t (Ok []) (pick u x (Err r)) ≡ (pick t fine (pick u v (Err r)) >> Ok (pick t [] y))
     go true u = refl
     go false true = h
     go false false = refl
 
-pub stream_two : (d : Disk) (size pos : ℕ) (es : List Extent) → stream_by (piece d) d size pos es ≡ (settle d size pos es >> got (poured d size pos es))
+pub stream_two : (d : Disk) (size pos : ℕ) (es : List Extent) → stream_by (piece d) d size pos es ≡ (settle d size pos es >> Ok (poured d size pos es))
 unfolding stream_by settle poured
 stream_two d size pos [] = refl
 stream_two d size pos (e ∷ es) =
@@ -259,7 +259,7 @@ stream_two d size pos (e ∷ es) =
     (rw (fetch_two d e n, stream_two d size (a + n) es) (two (ready d e n) (settle d size (a + n) es) (taken d e n) (poured d size (a + n) es) (λ x y. replicate (a - pos) 0 ++ (x ++ y))))
 
 -- what a fetch that succeeds gives
-pub fetch_is : (d : Disk) (e : Extent) (n : ℕ) (x : List ℕ) → fetch (piece d) d e n ≡ got x
+pub fetch_is : (d : Disk) (e : Extent) (n : ℕ) (x : List ℕ) → fetch (piece d) d e n ≡ Ok x
     → (e.phys_block ≡ 0 → x ≡ replicate n 0) × ((e.phys_block ≡ 0 → ⊥) → x ≡ take n (drop (e.phys_block * d.block) d.image))
 fetch_is d e n x w =
     let v = went (ready d e n) _ _ (sym (fetch_two d e n) ∙ w) in

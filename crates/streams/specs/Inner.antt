@@ -2,9 +2,10 @@
 -- proofs/StreamLaws.antt), `chunked` does not show in it (`copy_chunks`, there), and `settled_by` and `stream_bytes` are the two of `stream_of`
 -- (`settled_is`, proofs/Laws.antt; `stream_settled`, proofs/Contents.antt).
 use Rattle.std.specs.Prelude.{ℕ, zero, suc, ◌+◌, ◌*◌, ◌-◌, ◌/◌, min, List, [], ◌∷◌, ◌++◌, take, drop, replicate}
-use Rattle.error.specs.Answer.{Answer, got, no, ◌>>=◌, if_le, if_eq}
+use Rattle.error.specs.Answer.{Answer, Ok, Err, ◌>>=◌, if_le, if_eq}
 use Rattle.error.specs.declared.Refusal.TheVariants.{Corrupt}
-use Rattle.lookup.specs.Counted.{Counted, after, onto}
+use Rattle.lookup.specs.declared.counted.Counted.{Counted}
+use Rattle.lookup.specs.Counted.{after, onto}
 use Rattle.btree.specs.Scan.{Run, more, end, refused, scan_of}
 use Rattle.node.specs.declared.place.Place.{Place}
 use Rattle.volume.specs.declared.Volume.{Volume}
@@ -40,13 +41,13 @@ poured d size pos (e ∷ es) =
 
 -- the inner loop of fs.rs, `copy_dstream`: of the want bytes from block p on, those past the first `done`, at most c blocks at a time (COPY_CHUNK)
 unfoldable pub chunks : Disk → ℕ → ℕ → ℕ → ℕ → ℕ → Answer (List ℕ)
-chunks d c zero p done want = got []
+chunks d c zero p done want = Ok []
 chunks d c (suc fuel) p done want =
     let bs : ℕ = d.block in
     let n : ℕ = min (want - done) (c * bs) in
     let q : ℕ = p + done / bs in
-    if_le want done (got [])
-    (lies d q (q + blocks bs n) >> (chunks d c fuel p (done + n) want >>= λ y. got (take n (drop (q * bs) d.image) ++ y)))
+    if_le want done (Ok [])
+    (lies d q (q + blocks bs n) >> (chunks d c fuel p (done + n) want >>= λ y. Ok (take n (drop (q * bs) d.image) ++ y)))
 
 unfoldable pub chunked : Disk → ℕ → ℕ → ℕ → Answer (List ℕ)
 chunked d c p want = chunks d c want p 0 want
@@ -79,8 +80,8 @@ unfoldable pub settled_by : List ℕ → Volume → ℕ → ℕ → ℕ → Coun
 settled_by b v object size s = onto (extents_of b v object s) λ es t. after t (settle (disk_of v.reader b) size 0 es)
 
 abbrev pub bytes_then : Answer Extent → (Extent → List ℕ) → List ℕ
-bytes_then (got e) k = k e
-bytes_then (no w) k = []
+bytes_then (Ok e) k = k e
+bytes_then (Err w) k = []
 
 -- the bytes of a run of extents from pos on; none past an extent that can't be read
 unfoldable pub run_bytes : (Place → Answer Extent) → Disk → ℕ → ℕ → Run → List ℕ

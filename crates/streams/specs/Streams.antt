@@ -1,16 +1,12 @@
 -- An attribute's data stream: its contents, and what is refused. fs.rs, `read_xattr` and `copy_dstream`; document 01, "Records".
 use Rattle.std.specs.Prelude.{ℕ, List}
-use Rattle.lookup.specs.Counted.{Counted, after, onto}
+use Rattle.lookup.specs.declared.counted.Counted.{Counted}
+use Rattle.lookup.specs.Counted.{after, onto}
 use Rattle.volume.specs.declared.Volume.{Volume}
 use Rattle.lists.specs.Lists.{extents_of}
 use Rattle.extents.specs.Verdict.{fine}
 use Rattle.extents.specs.Extents.{disk_of}
-use Rattle.extents.specs.Ruling.{ruled}
 use Rattle.streams.specs.Stream.{stream}
-use Rattle.streams.specs.declared.settle.Settled.{Settled}
-
-abbrev pub settled_told : Settled → Counted (Unit {0})
-settled_told r = after r.nodes (ruled r.ruling)
 
 -- all extents are read, then the stream's bytes
 unfoldable pub stream_of : List ℕ → Volume → ℕ → ℕ → ℕ → Counted (List ℕ)

@@ -8,81 +8,52 @@ ghost use Rattle.lists.specs.Lists.{search_of};
 ghost use Rattle.extents.specs.Extents.{disk_of};
 ghost use Rattle.streams.specs.Inner.{taken, step_bytes, run_bytes, stream_bytes};
 
-use crate::step::{less, next_pos, wanted};
+use crate::copies::put_copies;
+use crate::step::{next_pos, wanted};
 use byte_fields::{Span, part};
 use cursor::{Step, first, next};
 use error::Refusal;
-use extents::{block_size, smaller};
-use lists::{ExtentIn, extent_in, search};
+use extents::block_size;
+use lists::{Seen, extent_in, search};
 use obj::Reader;
 use records::Extent;
-use text::{Position, put_hex};
+use text::put_hex;
 use volume::Volume;
 
-// n zero bytes.
-fn write_zeros(out: &mut [u8], room: usize, p: Position, n: u64) -> Position
+// Zeros, two digits each.
+fn put_zeros(
+    out: &mut [u8],
+    room: usize,
+    p: Result<usize, Refusal>,
+    n: u64,
+) -> Result<usize, Refusal>
     ensures { output_of result out.new ≡ puts room (pairs (replicate n 0) []) (output_of p out.old) }
 {
-    let mut q = p;
-    let mut left = n;
-    while 0 < left {
-        match q {
-            Position::No(e) => return Position::No(e),
-            Position::At(_) => {
-                q = put_hex(out, room, q, b"\x00");
-                left -= 1;
-            }
-        }
+    p?;
+    if room as u64 / 2 < n {
+        return Err(Refusal::BufferTooShort);
     }
-    q
-}
-
-// Zeros that pass the room are refused before one is written, and past the buffer's end none is: a size may lie far past
-// any buffer.
-fn put_zeros(out: &mut [u8], room: usize, p: Position, n: u64) -> Position
-    ensures { output_of result out.new ≡ puts room (pairs (replicate n 0) []) (output_of p out.old) }
-{
-    match p {
-        Position::No(e) => Position::No(e),
-        Position::At(at) => {
-            if room as u64 / 2 < n {
-                return Position::No(Refusal::BufferTooShort);
-            }
-            if room < at {
-                return write_zeros(out, room, p, n);
-            }
-            if (room - at) / 2 < n as usize {
-                return Position::No(Refusal::BufferTooShort);
-            }
-            if out.len() <= at {
-                return Position::At(at + 2 * n as usize);
-            }
-            write_zeros(out, room, p, n)
-        }
-    }
+    put_copies(out, room, p, b'0', 2 * n)
 }
 
 // Where block p begins in the image, or its end.
 pub fn begins(image: &[u8], reader: Reader, p: u64) -> usize
     ensures { result ≡ min (p * max 1 reader.block_size) (length image.now) }
 {
-    let bs = block_size(reader);
-    if image.len() as u64 / bs < p {
-        return image.len();
-    }
-    (p * bs) as usize
+    p.saturating_mul(block_size(reader)).min(image.len() as u64) as usize
 }
 
 // The first n bytes of an extent.
+#[tactic(auto, using(crate::proofs::Pouring::drop_least), unfolding(crate::specs::Inner::taken, byte_fields::specs::Part::part_of, error::specs::Answer::if_eq))]
 fn put_taken(
     out: &mut [u8],
     room: usize,
-    p: Position,
+    p: Result<usize, Refusal>,
     image: &[u8],
     reader: Reader,
     e: Extent,
     n: u64,
-) -> Position
+) -> Result<usize, Refusal>
     ensures { output_of result out.new ≡ puts room (pairs (taken (disk_of reader image.now) e n) []) (output_of p out.old) }
 {
     if e.phys_block == 0 {
@@ -96,62 +67,57 @@ fn put_taken(
 }
 
 // The gap before an extent, and its bytes.
+#[tactic(auto, using(crate::proofs::Pouring::pairs_then), unfolding(crate::specs::Inner::step_bytes, text::specs::Output::puts, text::specs::Words::pairs, error::specs::Answer::if_le))]
 fn put_step(
     out: &mut [u8],
     room: usize,
-    p: Position,
+    p: Result<usize, Refusal>,
     image: &[u8],
     reader: Reader,
     size: u64,
     pos: u64,
     e: Extent,
-) -> Position
+) -> Result<usize, Refusal>
     ensures { output_of result out.new ≡ puts room (pairs (step_bytes (disk_of reader image.now) size pos e) []) (output_of p out.old) }
 {
     if size <= pos {
         return p;
     }
-    let a = smaller(e.logical, size);
-    let gap = less(a, pos);
+    let gap = e.logical.min(size).saturating_sub(pos);
     let q = put_zeros(out, room, p, gap);
     put_taken(out, room, q, image, reader, e, wanted(size, e))
 }
 
 // All bytes of a stream, its extents from a step on; what an unread extent would give is left out.
+#[tactic(auto, using(lists::proofs::Turns::turns))]
 pub fn put_stream_from(
     out: &mut [u8],
     room: usize,
-    p: Position,
+    p: Result<usize, Refusal>,
     image: &[u8],
     v: Volume,
     object: u64,
     size: u64,
     start: Step,
-) -> Position
+) -> Result<usize, Refusal>
     ensures { output_of result out.new ≡ puts room (pairs (run_bytes (extent_at v.reader image.now) (disk_of v.reader image.now) size 0 (run_at image.now (search_of v object 8) start start.from)) []) (output_of p out.old) }
 {
     let q = search(v, object, 8);
-    let keys = q.keys;
     let reader = v.reader;
-    let mut o = p;
+    let mut at = p?;
     let mut pos: u64 = 0;
     let mut s = start;
     let mut i = s.from;
     loop {
-        if let Position::No(w) = o {
-            return Position::No(w);
-        }
-        let at = s.reached;
-        match extent_in(image, keys, at, i) {
-            ExtentIn::Over => return put_zeros(out, room, o, less(size, pos)),
-            ExtentIn::No(_) => return o,
-            ExtentIn::Passed => {
-                let c = s.path;
-                s = next(image, q, c, s.level, s.nodes);
+        match extent_in(image, q.keys, s.reached, i) {
+            Seen::Over => return put_zeros(out, room, Ok(at), size.saturating_sub(pos)),
+            Seen::Refused(_) => return Ok(at),
+            Seen::Passed => {
+                s = next(image, q, s.path, s.level, s.nodes);
                 i = s.from;
             }
-            ExtentIn::At(e, after) => {
-                o = put_step(out, room, o, image, reader, size, pos, e);
+            Seen::Element(e, after) => {
+                at = put_step(out, room, Ok(at), image, reader, size, pos, e)?;
                 pos = next_pos(size, pos, e);
                 i = after;
             }
@@ -159,16 +125,17 @@ pub fn put_stream_from(
     }
 }
 
+#[tactic(auto, unfolding(crate::specs::Inner::stream_bytes))]
 pub fn put_stream_hex(
     out: &mut [u8],
     room: usize,
-    p: Position,
+    p: Result<usize, Refusal>,
     image: &[u8],
     v: Volume,
     object: u64,
     size: u64,
     nodes: u64,
-) -> Position
+) -> Result<usize, Refusal>
     ensures { output_of result out.new ≡ puts room (pairs (stream_bytes image.now v object size nodes) []) (output_of p out.old) }
 {
     let start = first(image, search(v, object, 8), nodes);

@@ -1,15 +1,14 @@
 -- Counts that stay at 2^64 − 1, and the turns of the loops.
-use Prim.Native.Nat.{ℕ, suc, min, max, ◌+◌, ◌-◌, ◌^◌, ◌≤◌, ◌<◌}
-use mathlib.Core.Path.{◌≡◌, refl, sym, ap, ◌∙◌}
-use mathlib.Core.List.{List, [], ◌∷◌}
+use Prim.Native.Nat.{ℕ, suc, max, ◌+◌, ◌-◌, ◌^◌, ◌≤◌, ◌<◌}
+use mathlib.Core.Path.{◌≡◌, sym, ap, ◌∙◌}
+use mathlib.Core.List.{List, []}
+use mathlib.Core.Logic.{◌⊎◌, inl, inr}
 use native.Mathlib.Omega.{arith}
 use borrow.Author.Rules.{rules}
 use lib.ListN.{length}
-use Rattle.error.specs.Answer.{Answer, got, no}
-use Rattle.error.proofs.Laws.{same, other}
+use Rattle.error.specs.Answer.{Answer, Ok, Err}
 use Rattle.error.specs.declared.Refusal.{Refusal}
-use Rattle.lookup.specs.Counted.{Counted}
-use Rattle.totals.specs.declared.Totals.{Totals}
+use Rattle.lookup.specs.declared.counted.Counted.{Counted}
 use Rattle.totals.specs.Totals.{counts}
 use Rattle.btree.specs.Scan.{scan_of}
 use Rattle.btree.specs.declared.entries.Search.{Search}
@@ -17,21 +16,17 @@ use Rattle.cursor.specs.Left.{left, run_at, in_step, Begins}
 use Rattle.cursor.specs.declared.steps.Step.{Step}
 use Rattle.volume.specs.declared.Volume.{Volume}
 use Rattle.volume.specs.Rule.{hashed_keys}
-use Rattle.inode_record.specs.Inode.{compressed, inode_told}
 use Rattle.inode_record.specs.declared.inode.Inode.{Inode}
-use Rattle.inode_record.specs.declared.inode.InodeRead.{InodeRead}
 use Rattle.records.specs.Attribute.{attribute_at}
 use Rattle.records.specs.Directory.{entry_at}
 use Rattle.records.specs.declared.attribute.Attribute.{Attribute}
 use Rattle.records.specs.declared.directory.Entry.{Entry}
 use Rattle.lists.specs.Lists.{search_of, inode_of}
 use Rattle.lists.specs.Inner.{readable}
-use Rattle.lists.specs.Seen.{Seen, over, passed, element, refusal, seen_in}
-use Rattle.lists.specs.Told.{inode_found}
-use Rattle.lists.specs.declared.inodes.InodeFound.{InodeFound}
+use Rattle.lists.specs.declared.seen.Seen.{Seen}
+use Rattle.lists.specs.declared.seen.Seen.TheVariants.{Over, Passed, Element, Refused}
+use Rattle.lists.specs.Seen.{seen_in}
 use Rattle.lists.proofs.Reading.{less_at, less_passed, readable_over, readable_no, readable_at, readable_passed}
-use Rattle.lists.proofs.Turns.{seens}
-use Rattle.files.specs.File.{size_of}
 use Rattle.tally.specs.declared.counts.Tally.{Tally}
 use Rattle.tally.specs.Weight.{Weight, tally_told, cap, capped, no_weight, beside, under, entered, shown_size, attributes_on, entries_on, own_weight, weigh_all, weight_by, weight}
 
@@ -46,16 +41,16 @@ module _ (b : List ℕ) (q : Search) (s : Step) (i n whole : ℕ) (inv : cap (n 
   none_left : readable (attribute_at q.keys.reader b) (run_at b q s i) ≡ [] → n ≡ whole
   none_left e = omega (arith, rw e at inv)
 
-  pub count_over : x ≡ over → n ≡ whole
+  pub count_over : x ≡ Over → n ≡ whole
   count_over e = none_left (readable_over (attribute_at q.keys.reader b) b q s i x t e)
 
-  pub count_no : (z : Refusal) → x ≡ refusal z → n ≡ whole
+  pub count_no : (z : Refusal) → x ≡ Refused z → n ≡ whole
   count_no z e = none_left (readable_no (attribute_at q.keys.reader b) b q s i x t z e)
 
-  pub count_passed : (m : Step) → x ≡ passed → Begins b q m (left b q s.path s.level s.nodes) → cap (n + length (readable (attribute_at q.keys.reader b) (run_at b q m m.from))) ≡ whole
+  pub count_passed : (m : Step) → x ≡ Passed → Begins b q m (left b q s.path s.level s.nodes) → cap (n + length (readable (attribute_at q.keys.reader b) (run_at b q m m.from))) ≡ whole
   count_passed m e h = rw (readable_passed (attribute_at q.keys.reader b) b q s i x t m e h) inv
 
-  pub count_next : (a : Attribute) (c m : ℕ) → x ≡ element a c → m ≡ cap (n + 1) → cap (m + length (readable (attribute_at q.keys.reader b) (run_at b q s c))) ≡ whole
+  pub count_next : (a : Attribute) (c m : ℕ) → x ≡ Element a c → m ≡ cap (n + 1) → cap (m + length (readable (attribute_at q.keys.reader b) (run_at b q s c))) ≡ whole
   count_next a c m e g = let l = rw (readable_at (attribute_at q.keys.reader b) b q s i x t a c e) at inv in omega arith
 
 pub count_small : (n m : ℕ) → m ≡ cap n → m ≤ 2 ^ 64 - 1
@@ -67,20 +62,12 @@ count_done b v id n q s e h = omega (arith, rw e at h)
 
 -- ---- a node by itself
 
-pub size_packed : (i : Inode) → compressed i ≡ 1 → 0 ≡ shown_size i
-unfolding shown_size
-size_packed i e = same _ _ _ _ _ e refl
-
-pub size_plain : (i : Inode) (n : ℕ) → (compressed i ≡ 1 → ⊥) → n ≡ size_of i → n ≡ shown_size i
-unfolding shown_size
-size_plain i n e h = other _ _ _ _ _ e h
-
-pub own_told : (b : List ℕ) (v : Volume) (id : ℕ) (i : Inode) (s : Step) (z m n : ℕ) → Begins b (search_of v id 4) s (scan_of b (search_of v id 4) 0) → z ≡ shown_size i → m ≡ cap (0 + z)
+pub own_told : (b : List ℕ) (v : Volume) (id : ℕ) (i : Inode) (s : Step) (z n : ℕ) → Begins b (search_of v id 4) s (scan_of b (search_of v id 4) 0) → z ≡ shown_size i → z < 2 ^ 64
     → n ≡ cap (length (readable (attribute_at v.reader b) (run_at b (search_of v id 4) s s.from)))
-    → record { totals = counts 1 m n; below = 0 } ≡ capped (own_weight b v id i)
+    → record { totals = counts 1 z n; below = 0 } ≡ capped (own_weight b v id i)
 unfolding attributes_on
-own_told b v id i s z m n g y h k =
-    let a : m ≡ cap (shown_size i) = omega arith in
+own_told b v id i s z n g y h k =
+    let a : z ≡ cap (shown_size i) = omega arith in
     let c : n ≡ cap (length (readable (attribute_at v.reader b) (scan_of b (search_of v id 4) 0))) = rw g.run at k in
     λ j. record { totals = counts 1 (a j) (c j); below = 0 }
 
@@ -147,17 +134,15 @@ module _ (w : ℕ → Weight) (b : List ℕ) (q : Search) (s : Step) (i : ℕ) (
   unfolding weigh_all
   nothing_left e = sym (small_capped u k) ∙ (rw e at inv)
 
-  pub weigh_over : x ≡ over → u ≡ whole
-  weigh_over e = nothing_left (readable_over (entry_at q.keys.hashed q.keys.reader b) b q s i x t e)
+  pub weigh_ended : (x ≡ Over) ⊎ ((z : Refusal) × (x ≡ Refused z)) → u ≡ whole
+  weigh_ended (inl e) = nothing_left (readable_over (entry_at q.keys.hashed q.keys.reader b) b q s i x t e)
+  weigh_ended (inr (z, e)) = nothing_left (readable_no (entry_at q.keys.hashed q.keys.reader b) b q s i x t z e)
 
-  pub weigh_no : (z : Refusal) → x ≡ refusal z → u ≡ whole
-  weigh_no z e = nothing_left (readable_no (entry_at q.keys.hashed q.keys.reader b) b q s i x t z e)
-
-  pub weigh_passed : (m : Step) → x ≡ passed → Begins b q m (left b q s.path s.level s.nodes)
+  pub weigh_passed : (m : Step) → x ≡ Passed → Begins b q m (left b q s.path s.level s.nodes)
       → capped (beside u (weigh_all w (readable (entry_at q.keys.hashed q.keys.reader b) (run_at b q m m.from)))) ≡ whole
   weigh_passed m e h = rw (readable_passed (entry_at q.keys.hashed q.keys.reader b) b q s i x t m e h) inv
 
-  pub weigh_next : (a : Entry) (c : ℕ) (y r : Weight) → x ≡ element a c → y ≡ capped (w a.file_id) → r ≡ entered u y
+  pub weigh_next : (a : Entry) (c : ℕ) (y r : Weight) → x ≡ Element a c → y ≡ capped (w a.file_id) → r ≡ entered u y
       → capped (beside r (weigh_all w (readable (entry_at q.keys.hashed q.keys.reader b) (run_at b q s c)))) ≡ whole
   unfolding weigh_all
   weigh_next a c y r e g h =
@@ -171,19 +156,19 @@ module _ (b : List ℕ) (v : Volume) (id levels : ℕ) where
   unfolding weight
   weight_none e = rw e
 
-  module _ (k : levels ≡ 0 → ⊥) (r : InodeFound) (p : inode_found r ≡ inode_of b v id 0) where
+  module _ (k : levels ≡ 0 → ⊥) (r : Counted Inode) (p : r ≡ inode_of b v id 0) where
     one_less : weight b v levels id ≡ weight_by b v (weight b v (levels - 1)) id (inode_of b v id 0).answer
     unfolding weight
     one_less = let m : levels ≡ suc (levels - 1) = omega arith in ap (λ (n : ℕ). weight b v n id) m
 
-    read_as : (x : InodeRead) → r.inode ≡ x → (inode_of b v id 0).answer ≡ inode_told x
-    read_as x q = ap (λ (c : Counted Inode). c.answer) (sym p) ∙ ap inode_told q
+    read_as : (x : Answer Inode) → r.answer ≡ x → (inode_of b v id 0).answer ≡ x
+    read_as x q = ap (λ (c : Counted Inode). c.answer) (sym p) ∙ q
 
-    pub weight_no : (w : Refusal) → r.inode ≡ InodeRead.No w → no_weight ≡ capped (weight b v levels id)
-    weight_no w q = sym (ap capped (one_less ∙ ap (weight_by b v (weight b v (levels - 1)) id) (read_as (InodeRead.No w) q)))
+    pub weight_no : (w : Refusal) → r.answer ≡ Err w → no_weight ≡ capped (weight b v levels id)
+    weight_no w q = sym (ap capped (one_less ∙ ap (weight_by b v (weight b v (levels - 1)) id) (read_as (Err w) q)))
 
     -- the loop that ended
-    pub weight_done : (i : Inode) (q : Search) (t : Step) (o z : Weight) → r.inode ≡ InodeRead.Got i → q ≡ search_of v id 9 → Begins b (search_of v id 9) t (scan_of b (search_of v id 9) 0)
+    pub weight_done : (i : Inode) (q : Search) (t : Step) (o z : Weight) → r.answer ≡ Ok i → q ≡ search_of v id 9 → Begins b (search_of v id 9) t (scan_of b (search_of v id 9) 0)
         → o ≡ capped (own_weight b v id i) → z ≡ capped (beside o (weigh_all (weight b v (levels - 1)) (readable (entry_at q.keys.hashed q.keys.reader b) (run_at b q t t.from)))) → z ≡ capped (weight b v levels id)
     unfolding entries_on
     weight_done i q t o z f e g h last =
@@ -191,7 +176,7 @@ module _ (b : List ℕ) (v : Volume) (id levels : ℕ) where
         let all : readable (entry_at q.keys.hashed q.keys.reader b) (run_at b q t t.from) ≡ readable (entry_at (hashed_keys v) v.reader b) (scan_of b (search_of v id 9) 0)
         = ap (λ (a : Search). readable (entry_at a.keys.hashed a.keys.reader b) (run_at b a t t.from)) e ∙ ap (readable (entry_at (hashed_keys v) v.reader b)) g.run in
         last ∙ (λ j. capped (beside (h j) (weigh_all w (all j)))) ∙ beside_capped (own_weight b v id i) (weigh_all w (readable (entry_at (hashed_keys v) v.reader b) (scan_of b (search_of v id 9) 0)))
-        ∙ sym (ap capped (one_less ∙ ap (weight_by b v w id) (read_as (InodeRead.Got i) f)))
+        ∙ sym (ap capped (one_less ∙ ap (weight_by b v w id) (read_as (Ok i) f)))
 
 pub some_left : (n : ℕ) → (n ≡ 0 → ⊥) → 1 ≤ n
 some_left n h = omega arith
@@ -199,4 +184,4 @@ some_left n h = omega arith
 pub less_left : (n t : ℕ) → (n ≡ 0 → ⊥) → n ≡ t → n - 1 < t
 less_left n t h e = omega arith
 
-pub ruleset nodes = (rules, seens, less_at, less_passed, weight_none, weight_no, some_left)
+pub ruleset nodes = (rules, less_at, less_passed, weight_none, weight_no, some_left)

@@ -1,7 +1,7 @@
 -- What a node's form and all below it count for, and how far below it the deepest node lies, over a volume's records. It needs no belief: of a node whose
 -- form is written to its end these are the totals and the depth of the tree that the volume shows (`shown_weight`, measure, proofs/Shown.antt).
 use Rattle.std.specs.Prelude.{ℕ, zero, suc, min, max, ◌+◌, ◌-◌, ◌^◌, List, [], ◌∷◌, length}
-use Rattle.error.specs.Answer.{Answer, got, no, if_eq}
+use Rattle.error.specs.Answer.{Answer, Ok, Err, if_eq}
 use Rattle.totals.specs.declared.Totals.{Totals}
 use Rattle.totals.specs.Totals.{counts, no_totals, plus}
 use Rattle.btree.specs.Scan.{scan_of}
@@ -69,8 +69,8 @@ weigh_all w [] = no_weight
 weigh_all w (e ∷ es) = beside (under (w e.file_id)) (weigh_all w es)
 
 abbrev pub weight_by : List ℕ → Volume → (ℕ → Weight) → ℕ → Answer Inode → Weight
-weight_by b v w id (got i) = beside (own_weight b v id i) (weigh_all w (entries_on b v id))
-weight_by b v w id (no e) = no_weight
+weight_by b v w id (Ok i) = beside (own_weight b v id i) (weigh_all w (entries_on b v id))
+weight_by b v w id (Err e) = no_weight
 
 unfoldable pub weight : List ℕ → Volume → ℕ → ℕ → Weight
 weight b v zero id = no_weight

@@ -7,33 +7,33 @@ ghost use Rattle.lists.specs.Lists.{search_of};
 ghost use Rattle.lists.specs.Inner.{readable};
 ghost use Rattle.tally.specs.Weight.{cap, capped, shown_size, own_weight, tally_told};
 
-use crate::counts::{Tally, add};
+use crate::counts::Tally;
 use cursor::{Step, Way, next};
 use files::size_of;
 use inode_record::Inode;
-use lists::{AttributeIn, attribute_in, list_on, search};
+use lists::{Seen, attribute_in, list_on, search};
 use volume::Volume;
 
+#[tactic(auto, using(lists::proofs::Reading::less_at, lists::proofs::Reading::less_passed, crate::proofs::Counting::count_over, crate::proofs::Counting::count_no, crate::proofs::Counting::count_passed, crate::proofs::Counting::count_next, crate::proofs::Counting::count_small, crate::proofs::Counting::count_done))]
 fn count_attributes(image: &[u8], v: Volume, id: u64, start: Step) -> u64
     ensures { result ≡ cap (length (readable (attribute_at v.reader image.now) (run_at image.now (search_of v id 4) start start.from))) }
 {
     let q = search(v, id, 4);
     let keys = q.keys;
-    let mut n = 0;
+    let mut n: u64 = 0;
     let mut s = start;
     let mut i = s.from;
     loop {
         let at = s.reached;
         match attribute_in(image, keys, at, i) {
-            AttributeIn::Over => return n,
-            AttributeIn::No(_) => return n,
-            AttributeIn::Passed => {
+            Seen::Over | Seen::Refused(_) => return n,
+            Seen::Passed => {
                 let c = s.path;
                 s = next(image, q, c, s.level, s.nodes);
                 i = s.from;
             }
-            AttributeIn::At(_, after) => {
-                n = add(n, 1);
+            Seen::Element(_, after) => {
+                n = n.saturating_add(1);
                 i = after;
             }
         }
@@ -41,6 +41,7 @@ fn count_attributes(image: &[u8], v: Volume, id: u64, start: Step) -> u64
 }
 
 // How many bytes its data form shows.
+#[tactic(auto, unfolding(crate::specs::Weight::shown_size, error::specs::Answer::if_eq))]
 fn shown_size(i: Inode) -> u64
     ensures { result ≡ shown_size i }
 {
@@ -59,7 +60,7 @@ pub fn own_tally(image: &[u8], v: Volume, id: u64, i: Inode, w: Way) -> Tally
     let attributes = list_on(image, v, id, 4, w, 0);
     Tally {
         nodes: 1,
-        bytes: add(0, shown_size(i)),
+        bytes: shown_size(i),
         attrs: count_attributes(image, v, id, attributes),
         below: 0,
     }

@@ -5,8 +5,7 @@ ghost use Rattle.tally.specs.Weight.{capped, weight, tally_told};
 use crate::counts::{Tally, with_entry};
 use crate::own::own_tally;
 use cursor::next;
-use inode_record::InodeRead;
-use lists::{EntryIn, entry_in, inode_on, inode_way, list_on, search};
+use lists::{Seen, entry_in, inode_on, inode_way, list_on, search};
 use volume::Volume;
 
 // The node of an id, with as many levels as `levels` from it on.
@@ -23,31 +22,26 @@ pub fn tally_node(image: &[u8], v: Volume, id: u64, levels: u32) -> Tally
         return none;
     }
     let way = inode_way(image, v, id, 0);
-    let found = inode_on(image, v, id, way, 0);
-    let read = found.inode;
-    match read {
-        InodeRead::No(_) => none,
-        InodeRead::Got(i) => {
-            let q = search(v, id, 9);
-            let keys = q.keys;
-            let mut s = list_on(image, v, id, 9, way, 0);
-            let mut t = own_tally(image, v, id, i, way);
-            let mut k = s.from;
-            loop {
-                let at = s.reached;
-                match entry_in(image, keys, at, k) {
-                    EntryIn::Over => return t,
-                    EntryIn::No(_) => return t,
-                    EntryIn::Passed => {
-                        let c = s.path;
-                        s = next(image, q, c, s.level, s.nodes);
-                        k = s.from;
-                    }
-                    EntryIn::At(e, after) => {
-                        t = with_entry(t, tally_node(image, v, e.file_id, levels - 1));
-                        k = after;
-                    }
-                }
+    let Ok(i) = inode_on(image, v, id, way, 0).answer else {
+        return none;
+    };
+    let q = search(v, id, 9);
+    let keys = q.keys;
+    let mut s = list_on(image, v, id, 9, way, 0);
+    let mut t = own_tally(image, v, id, i, way);
+    let mut k = s.from;
+    loop {
+        let at = s.reached;
+        match entry_in(image, keys, at, k) {
+            Seen::Over | Seen::Refused(_) => return t,
+            Seen::Passed => {
+                let c = s.path;
+                s = next(image, q, c, s.level, s.nodes);
+                k = s.from;
+            }
+            Seen::Element(e, after) => {
+                t = with_entry(t, tally_node(image, v, e.file_id, levels - 1));
+                k = after;
             }
         }
     }

@@ -1,13 +1,11 @@
 -- A number's digits, the last first, from the end of a buffer on.
 use Prim.Native.Nat.{ℕ, zero, suc, ◌+◌, ◌*◌, ◌-◌, ◌/◌, ◌%◌, ◌^◌, ◌≤◌, ◌<◌}
-use mathlib.Core.Path.{◌≡◌, refl, sym, ap, ◌∙◌}
+use mathlib.Core.Path.{◌≡◌, ◌∙◌}
 use mathlib.Core.List.{List, [], ◌∷◌}
-use lib.ListN.{length, length-set, length-drop, set, take, drop}
-use lib.Seq.{take_all, drop-cons, drop-set-lt, get_or-set_same}
+use lib.ListN.{length, length-set, set, drop}
+use lib.Seq.{drop-cons, drop-set-lt, get_or-set_same}
 use native.Mathlib.Nat.{pow-suc}
 use native.Mathlib.Omega.{arith}
-use borrow.Author.Rules.{rules}
-use Rattle.text.specs.Output.{Output, puts}
 use Rattle.text.specs.Words.{digits}
 use Rattle.text.proofs.Digits.{digits_small, digits_large}
 
@@ -57,8 +55,3 @@ pub left_last : (n m i : ℕ) (ds : List ℕ) → Left n m i ds → m ≤ 9 → 
 left_last n m i ds l h =
     let k : i ≤ length ds = omega (arith, l.1, l.3) in
     (omega (arith, l.1), length-set ds (i - 1) (48 + m) ∙ l.3, numeral_last n m i ds l.4 l.0 k h)
-
-pub digits_written : (room n i k : ℕ) (ds : List ℕ) (o z : Output) → length ds ≡ k → drop i ds ≡ digits n [] → z ≡ puts room (take (k - i) (drop i ds)) o → z ≡ puts room (digits n []) o
-digits_written room n i k ds o z l e h =
-    let f : length (drop i ds) ≤ k - i = omega (arith, length-drop i ds) in
-    rw e at (rw (take_all (k - i) (drop i ds) f) at h)

@@ -1,5 +1,5 @@
 -- A text's first line and the others; a line and what follows it count for what each of the two counts for.
-use Prim.Native.Nat.{zero-le, ℕ, suc, ◌+◌, ◌≤◌}
+use Prim.Native.Nat.{zero-le, ℕ, suc, ◌≤◌}
 use mathlib.Core.Path.{◌≡◌, refl, sym, ap, ◌∙◌}
 use mathlib.Core.Bool.{Bool, true, false}
 use mathlib.Core.List.{List, [], ◌∷◌, ◌++◌}
@@ -10,7 +10,7 @@ use lib.ListN.{length, take, drop}
 use Rattle.error.specs.Answer.{pick, if_eq}
 use Rattle.error.proofs.Laws.{same, other, eq_cases}
 use Rattle.totals.specs.declared.Totals.{Totals}
-use Rattle.totals.specs.Totals.{longer, lines_of, line_length, no_totals, line_totals, plus, all_lines, totals_of}
+use Rattle.totals.specs.Totals.{longer, lines_of, line_length, line_totals, plus, all_lines, totals_of}
 
 pub length_le : (x : List ℕ) → line_length x ≤ length x
 unfolding line_length

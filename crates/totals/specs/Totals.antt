@@ -1,6 +1,6 @@
 -- The totals of a listing, counted over its lines. Document 02, request 08: "node forms printed, bytes shown in data forms, and attr forms. Each equals
 -- the count over the lines above it".
-use Rattle.std.specs.Prelude.{ℕ, zero, suc, ◌+◌, ◌-◌, ◌/◌, Bool, true, false, List, [], ◌∷◌, length}
+use Rattle.std.specs.Prelude.{ℕ, suc, ◌+◌, ◌-◌, ◌/◌, Bool, true, false, List, [], ◌∷◌, length}
 use Rattle.error.specs.Answer.{pick, if_eq}
 use Rattle.text.specs.Words.{ascii}
 use Rattle.totals.specs.declared.Totals.{Totals}

@@ -1,8 +1,8 @@
 // What the lines of a listing count for: document 02, request 08.
 #![tactic(auto)]
 
-ghost use Rattle.std.specs.Prelude.{◌≡◌, length, drop, ◌+◌};
-ghost use Rattle.totals.specs.Totals.{begins, line_length, line_totals, totals_of};
+ghost use Rattle.std.specs.Prelude.{◌≡◌, ◌≤◌, length, ◌+◌, ◌-◌};
+ghost use Rattle.totals.specs.Totals.{line_length, line_totals, totals_of};
 ghost use Rattle.totals.specs.Inner.{has_lf};
 
 #[derive(Clone, Copy)]
@@ -12,40 +12,25 @@ pub struct Totals {
     pub attrs: u64,
 }
 
-fn begins(line: &[u8], start: &[u8]) -> bool
-    ensures { result ≡ begins start.now line.now }
-{
-    let mut i = 0;
-    while i < start.len() {
-        if line.len() <= i {
-            return false;
-        }
-        if start[i] != line[i] {
-            return false;
-        }
-        i += 1;
-    }
-    true
-}
-
+#[tactic(auto, using(crate::proofs::Turns::by_start, crate::proofs::Turns::data_long))]
 fn line_totals(line: &[u8]) -> Totals
     ensures { result ≡ line_totals line.now }
 {
-    if begins(line, b"(node ") {
+    if line.starts_with(b"(node ") {
         return Totals {
             nodes: 1,
             bytes: 0,
             attrs: 0,
         };
     }
-    if begins(line, b"(attr ") {
+    if line.starts_with(b"(attr ") {
         return Totals {
             nodes: 0,
             bytes: 0,
             attrs: 1,
         };
     }
-    if begins(line, b"(data x") {
+    if line.starts_with(b"(data x") {
         return Totals {
             nodes: 0,
             bytes: ((line.len() - 7) / 2) as u64,
@@ -64,47 +49,39 @@ fn has_lf(b: &[u8]) -> bool
     ensures { result ≡ has_lf b.now }
 {
     let mut any = false;
-    let mut i = 0;
-    while i < b.len() {
-        if b[i] == b'\n' {
+    for x in b {
+        if *x == b'\n' {
             any = true;
         }
-        i += 1;
     }
     any
 }
 
-// Further on in the line that stands at `at`, by 64 bytes as long as none of them is an LF.
-fn along(text: &[u8], at: usize) -> usize
-    ensures { result + line_length (drop result text.now) ≡ at + line_length (drop at text.now) }
+// What is left of the text once blocks of 64 bytes are passed, as long as none of them has an LF.
+fn past_blocks(text: &[u8]) -> &[u8]
+    ensures { (length result.now ≤ length text.now) × (line_length text.now ≡ length text.now - length result.now + line_length result.now) }
 {
-    let mut i = at;
-    while i < text.len() {
-        if text.len() - i < 64 {
-            return i;
+    let mut rest = text;
+    while 64 <= rest.len() {
+        let (block, after) = rest.split_at(64);
+        if has_lf(block) {
+            return rest;
         }
-        if has_lf(&text[i..i + 64]) {
-            return i;
-        }
-        i += 64;
+        rest = after;
     }
-    i
+    rest
 }
 
-// Where the line that stands at `at` ends: at its LF, or where the text does.
-fn line_end(text: &[u8], at: usize) -> usize
-    ensures { result ≡ at + line_length (drop at text.now) }
+// Where the first line ends: at its LF, or where the text does.
+fn line_end(text: &[u8]) -> usize
+    ensures { result ≡ line_length text.now }
 {
-    let mut i = along(text, at);
-    while i < text.len() {
-        if text[i] == b'\n' {
-            return i;
-        }
-        i += 1;
-    }
-    i
+    let rest = past_blocks(text);
+    let within = rest.iter().position(|x| *x == b'\n');
+    text.len() - rest.len() + within.unwrap_or(rest.len())
 }
 
+#[tactic(auto, using(crate::proofs::Turns::turns))]
 pub fn totals_in(text: &[u8]) -> Totals
     ensures { result ≡ totals_of text.now }
 {
@@ -113,16 +90,16 @@ pub fn totals_in(text: &[u8]) -> Totals
         bytes: 0,
         attrs: 0,
     };
-    let mut at = 0;
-    while at < text.len() {
-        let end = line_end(text, at);
-        let l = line_totals(&text[at..end]);
+    let mut rest = text;
+    while !rest.is_empty() {
+        let end = line_end(rest);
+        let l = line_totals(&rest[..end]);
         t = Totals {
             nodes: t.nodes + l.nodes,
             bytes: t.bytes + l.bytes,
             attrs: t.attrs + l.attrs,
         };
-        at = end + 1;
+        rest = &rest[rest.len().min(end + 1)..];
     }
     t
 }

@@ -14,7 +14,7 @@ use Rattle.error.proofs.Laws.{other, le_cases, eq_cases}
 use Rattle.utf8.proofs.Pieces.{in_cases, beyond}
 use Rattle.unicode_forms.specs.Data.{ranges, any_in, covered, class_of, in_rows, hangul, decompose, lower_one, lower}
 use Rattle.unicode_forms.specs.Keys.{flat}
-use Rattle.unicode_forms.specs.Closed.{Settled, Closed, ClosedRanges}
+use Rattle.unicode_forms.specs.Closed.{Settled, ClosedRanges}
 
 -- ---- a test of every character that is covered, and what it says of each
 

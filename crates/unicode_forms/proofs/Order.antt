@@ -1,6 +1,6 @@
 -- Two lists have the same canonical order exactly where they are the same without the marks of class 230, and without those of class 202: the order
 -- never moves a mark past a starter or past one of its own class. So two names are compared in two goings-through, with nothing stored.
-use Prim.Native.Nat.{ℕ, suc, ◌≤◌, ◌<◌}
+use Prim.Native.Nat.{ℕ, ◌<◌}
 use mathlib.Core.Path.{◌≡◌, refl, sym, ap, ◌∙◌}
 use mathlib.Core.Logic.{◌⊎◌, inl, inr}
 use mathlib.Core.Bool.{Bool, true, false}

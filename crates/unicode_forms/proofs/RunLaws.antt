@@ -1,10 +1,8 @@
 -- A run of marks in canonical order: those of class 202, then those of class 230.
-use Prim.Native.Nat.{ℕ, suc, ◌≤◌}
+use Prim.Native.Nat.{ℕ}
 use mathlib.Core.Path.{◌≡◌, refl, sym, ap, ◌∙◌}
 use mathlib.Core.List.{List, [], ◌∷◌, ◌++◌}
-use lib.ListN.{length}
 use native.Mathlib.Omega.{arith}
-use native.Mathlib.Nat.{le_refl}
 use Rattle.error.proofs.Laws.{same, other, at_most_lem, above}
 use Rattle.unicode_forms.specs.Data.{class_of}
 use Rattle.unicode_forms.specs.Keys.{if_reorderable, place, canonical}

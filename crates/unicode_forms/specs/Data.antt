@@ -1,6 +1,6 @@
 -- The characters that key comparison covers, and their data. Request 07, which the quotes are from; Unicode Character Database: UnicodeData.txt, fields 3
 -- (Canonical_Combining_Class), 5 (Decomposition_Mapping, where it is canonical) and 13 (Simple_Lowercase_Mapping), and SpecialCasing.txt for U+0130.
-use Rattle.std.specs.Prelude.{ℕ, ◌+◌, ◌-◌, ◌*◌, ◌/◌, ◌%◌, Bool, true, false, List, [], ◌∷◌}
+use Rattle.std.specs.Prelude.{ℕ, ◌+◌, ◌-◌, ◌/◌, ◌%◌, Bool, true, false, List, [], ◌∷◌}
 use Rattle.error.specs.Answer.{if_le, if_eq}
 use Rattle.utf8.specs.Text.{Range, ◌to◌, if_in}
 

@@ -1,5 +1,5 @@
 -- Keys of names. Request 07; fs.rs, `NameRule::key`; name_hash.rs, `name_hash`; Unicode Standard, section 3.11, D108 and D109 (canonical ordering).
-use Rattle.std.specs.Prelude.{ℕ, Bool, true, false, List, [], ◌∷◌, ◌++◌, eqb}
+use Rattle.std.specs.Prelude.{ℕ, Bool, true, false, List, [], ◌∷◌, ◌++◌}
 use Rattle.error.specs.Answer.{pick, if_le, if_eq}
 use Rattle.utf8.specs.Text.{same_bytes}
 use Rattle.utf8.specs.Characters.{characters}

@@ -5,20 +5,13 @@ ghost use Rattle.std.specs.Prelude.{◌≡◌};
 ghost use Rattle.unicode_forms.specs.Data.{class_of};
 
 // The combining class of a character.
+#[tactic(auto, unfolding(crate::specs::Data::class_of, utf8::specs::Text::if_in, error::specs::Answer::if_le))]
 pub fn class_of(c: u32) -> u32
     ensures { result ≡ class_of c }
 {
-    if c < 0x0300 {
-        return 0;
+    match c {
+        0x0300..=0x030C => 230,
+        0x0327..=0x0328 => 202,
+        _ => 0,
     }
-    if c <= 0x030C {
-        return 230;
-    }
-    if c < 0x0327 {
-        return 0;
-    }
-    if c <= 0x0328 {
-        return 202;
-    }
-    0
 }

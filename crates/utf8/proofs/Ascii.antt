@@ -1,5 +1,5 @@
 -- A text of ASCII characters reads as itself.
-use Prim.Native.Nat.{ℕ, ◌+◌, ◌≤◌, ◌<◌}
+use Prim.Native.Nat.{ℕ, ◌+◌, ◌≤◌, ◌<◌, max}
 use mathlib.Core.Path.{◌≡◌, refl, sym, ◌∙◌}
 use mathlib.Core.Bool.{Bool, true, false}
 use mathlib.Core.List.{List, [], ◌∷◌}
@@ -11,7 +11,7 @@ use native.Mathlib.Nat.{zero-add}
 use native.Mathlib.Numerals.{add-one}
 use borrow.Author.Rules.{rules}
 use Rattle.error.specs.Answer.{pick, if_le}
-use Rattle.error.proofs.Laws.{tests, at_most_lem, above, le_cases}
+use Rattle.error.proofs.Laws.{at_most_lem, above, le_cases}
 use Rattle.utf8.specs.Text.{then, rest_of, piece_of, lossy, replaced, ascii}
 use Rattle.utf8.specs.declared.Piece.TheVariants.{WellFormed}
 use Rattle.utf8.proofs.Pieces.{inside, one_byte_lem}
@@ -68,7 +68,9 @@ module _ (b : List ℕ) (i t : ℕ) (w : Bool) (p : ascii_from t (drop i b) ≡ 
         (λ l e. at_most_lem _ _ _ _ _ (omega arith) refl ∙ at_most_lem _ _ _ _ _ l refl ∙ e)
         (λ l e. above _ _ _ _ _ l refl ∙ e) next_byte
 
-    pub ascii_next : (z : ℕ) → z ≡ if_le (get_or b i 0) t t (get_or b i 0) → ascii_from z (drop (i + 1) b) ≡ w
-    ascii_next z e = rw e (le_cases (λ y. ascii_from y (drop (i + 1) b) ≡ w) ascii_lower ascii_higher)
+    pub ascii_next : ascii_from (max t (get_or b i 0)) (drop (i + 1) b) ≡ w
+    ascii_next =
+        let e : max t (get_or b i 0) ≡ if_le (get_or b i 0) t t (get_or b i 0) = le_cases (λ y. max t (get_or b i 0) ≡ y) (λ h. omega arith) (λ h. omega arith) in
+        rw e (le_cases (λ y. ascii_from y (drop (i + 1) b) ≡ w) ascii_lower ascii_higher)
 
-pub ruleset plain = (rules, tests, ascii_starts, ascii_end, ascii_next)
+pub ruleset plain = (rules, ascii_starts, ascii_end, ascii_next)

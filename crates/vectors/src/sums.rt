@@ -1,5 +1,5 @@
+use error::Refusal;
 // CRC-32C: RFC 3720, B.4, and the catalogue's check value. Fletcher sums worked by hand. The marked lines of document 01 on both.
-use byte_fields::Number;
 
 fn show(label: &[u8], value: u64, width: usize) {
     io::write_all(1, label);
@@ -62,10 +62,10 @@ pub fn fletcher() {
     sum_of(b"fletcher of 32 bytes, all ones", &ones);
 }
 
-fn show_hash(label: &[u8], n: Number) {
+fn show_hash(label: &[u8], n: Result<u64, Refusal>) {
     match n {
-        Number::Got(x) => show(label, x, 8),
-        Number::No(e) => show(label, error::number_of(e) as u64, 1),
+        Ok(x) => show(label, x, 8),
+        Err(e) => show(label, error::number_of(e) as u64, 1),
     }
 }
 

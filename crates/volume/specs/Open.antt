@@ -1,12 +1,13 @@
 -- Opening a volume. Document 01, "A volume is tested for encryption, then sealing (both 3), then its maps and root"; fs.rs, `Volume::open`.
 use Rattle.std.specs.Prelude.{ℕ, ◌/◌, ◌%◌, List}
-use Rattle.error.specs.Answer.{Answer, got, no, if_eq}
+use Rattle.error.specs.Answer.{Answer, Ok, Err, if_eq}
 use Rattle.error.specs.declared.Refusal.TheVariants.{Unsupported}
 use Rattle.arith.specs.Checked.{ticked}
 use Rattle.obj.specs.Block.{block_of}
 use Rattle.obj.specs.declared.reader.Reader.{Reader}
 use Rattle.node.specs.Node.{info_of}
-use Rattle.lookup.specs.Counted.{Counted, after, from, onto}
+use Rattle.lookup.specs.declared.counted.Counted.{Counted}
+use Rattle.lookup.specs.Counted.{after, from, onto}
 use Rattle.lookup.specs.Read.{node_at}
 use Rattle.lookup.specs.Map.{resolve_at}
 use Rattle.lookup.specs.declared.map.Resolve.TheVariants.{Mapped}
@@ -18,29 +19,19 @@ use Rattle.nx.specs.declared.volume.VolumeSuperblock.{VolumeSuperblock}
 use Rattle.checkpoints.specs.declared.by_number.Choice.TheVariants.{Latest, Number}
 use Rattle.volume.specs.declared.Volume.{Volume}
 use Rattle.volume.specs.declared.Which.{Which}
-use Rattle.volume.specs.declared.VolumeOpening.{VolumeOpening}
-use Rattle.volume.specs.declared.VolumeOpening.TheVariants.{Got, No}
-use Rattle.volume.specs.declared.VolumeOpened.{VolumeOpened}
-
-abbrev pub opening : VolumeOpening → Answer Volume
-opening (Got v) = got v
-opening (No e) = no e
-
-abbrev pub open_told : VolumeOpened → Counted Volume
-open_told r = after r.nodes (opening r.volume)
 
 -- fs.rs, `Volume::open`, in its six steps, of a volume's superblock, s nodes having been gone through before: encryption (APFS_FS_UNENCRYPTED is 0x1 of
 -- the flags), sealing (APFS_INCOMPAT_SEALED_VOLUME is 0x20), the volume's own map, the root's address in it (a mapping with flag 0x4 is 3), the root, which
 -- counts once it has passed as a node, and its info
 unfoldable pub open_from : List ℕ → Reader → VolumeSuperblock → ℕ → ℕ → Counted Volume
 open_from image r sb xid s =
-    if_eq (sb.fs_flags % 2) 0 (after s (no Unsupported))
-    (if_eq (sb.incompat / 32 % 2) 1 (after s (no Unsupported))
+    if_eq (sb.fs_flags % 2) 0 (after s (Err Unsupported))
+    (if_eq (sb.incompat / 32 % 2) 1 (after s (Err Unsupported))
     (onto (map_at r image sb.omap_oid xid s) λ m t.
     onto (resolve_at r image (Mapped m) sb.root_tree_oid t) λ p u.
     from u (node_at r image p) λ root.
     from (ticked u) (info_of root (block_of r image root.block)) λ info.
-    after (ticked u) (got (record { reader = r; sb = sb; map = m; root = root; info = info }))))
+    after (ticked u) (Ok (record { reader = r; sb = sb; map = m; root = root; info = info }))))
 
 -- the volume at an index, s nodes having been gone through before
 unfoldable pub volume_open : List ℕ → Container → ℕ → ℕ → Counted Volume

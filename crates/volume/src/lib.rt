@@ -4,18 +4,16 @@
 mod rule;
 
 ghost use Rattle.std.specs.Prelude.{◌≡◌};
-ghost use Rattle.volume.specs.Open.{open_told, volume_open, volume_of_image};
+ghost use Rattle.volume.specs.Open.{volume_open, volume_of_image};
 ghost use Rattle.volume.specs.Inner.{rooted_of, tree_of, through_map, map_first, tested_of};
 
 use arith::tick;
-use byte_fields::Number;
 use checkpoints::Choice;
 use error::Refusal;
-use lookup::{Map, Resolve, read_node, resolve_child};
-use node::{Info, Informed, Node, Parsed, info_of};
-use nx::{Container, Opening, VolumeRead, VolumeSuperblock, volume_superblock};
+use lookup::{Counted, Map, Resolve, read_node, resolve_child};
+use node::{Info, Node, info_of};
+use nx::{Container, VolumeSuperblock, volume_superblock};
 use obj::Reader;
-use omap::Loading;
 pub use rule::{NameRule, hashed_keys, insensitive, name_rule};
 
 // Which volume of a container, at which checkpoint.
@@ -34,19 +32,6 @@ pub struct Volume {
     pub info: Info,
 }
 
-#[derive(Clone, Copy)]
-pub enum VolumeOpening {
-    Got(Volume),
-    No(Refusal),
-}
-
-// A volume, and the nodes gone through.
-#[derive(Clone, Copy)]
-pub struct VolumeOpened {
-    pub volume: VolumeOpening,
-    pub nodes: u64,
-}
-
 // The volume whose tree has a root that was read.
 fn with_root(
     image: &[u8],
@@ -55,12 +40,12 @@ fn with_root(
     map: Map,
     root: Node,
     nodes: u64,
-) -> VolumeOpened
-    ensures { open_told result ≡ rooted_of image.now reader sb map root nodes }
+) -> Counted<Volume>
+    ensures { result ≡ rooted_of image.now reader sb map root nodes }
 {
     match info_of(reader.block(image, root.block), root) {
-        Informed::Got(info) => VolumeOpened {
-            volume: VolumeOpening::Got(Volume {
+        Ok(info) => Counted {
+            answer: Ok(Volume {
                 reader: reader,
                 sb: sb,
                 map: map,
@@ -69,8 +54,8 @@ fn with_root(
             }),
             nodes: nodes,
         },
-        Informed::No(e) => VolumeOpened {
-            volume: VolumeOpening::No(e),
+        Err(e) => Counted {
+            answer: Err(e),
             nodes: nodes,
         },
     }
@@ -83,13 +68,13 @@ fn with_address(
     map: Map,
     paddr: u64,
     nodes: u64,
-) -> VolumeOpened
-    ensures { open_told result ≡ tree_of image.now reader sb map paddr nodes }
+) -> Counted<Volume>
+    ensures { result ≡ tree_of image.now reader sb map paddr nodes }
 {
     match read_node(reader, image, paddr) {
-        Parsed::Got(root) => with_root(image, reader, sb, map, root, tick(nodes)),
-        Parsed::No(e) => VolumeOpened {
-            volume: VolumeOpening::No(e),
+        Ok(root) => with_root(image, reader, sb, map, root, tick(nodes)),
+        Err(e) => Counted {
+            answer: Err(e),
             nodes: nodes,
         },
     }
@@ -102,15 +87,15 @@ fn with_map(
     sb: VolumeSuperblock,
     map: Map,
     nodes: u64,
-) -> VolumeOpened
-    ensures { open_told result ≡ through_map image.now reader sb map nodes }
+) -> Counted<Volume>
+    ensures { result ≡ through_map image.now reader sb map nodes }
 {
     let found = resolve_child(reader, image, Resolve::Mapped(map), sb.root_tree_oid, nodes);
-    let paddr = found.paddr;
+    let paddr = found.answer;
     match paddr {
-        Number::Got(p) => with_address(image, reader, sb, map, p, found.nodes),
-        Number::No(e) => VolumeOpened {
-            volume: VolumeOpening::No(e),
+        Ok(p) => with_address(image, reader, sb, map, p, found.nodes),
+        Err(e) => Counted {
+            answer: Err(e),
             nodes: found.nodes,
         },
     }
@@ -122,33 +107,39 @@ fn with_superblock(
     sb: VolumeSuperblock,
     xid: u64,
     nodes: u64,
-) -> VolumeOpened
-    ensures { open_told result ≡ map_first image.now reader sb xid nodes }
+) -> Counted<Volume>
+    ensures { result ≡ map_first image.now reader sb xid nodes }
 {
     let loaded = omap::load(reader, image, sb.omap_oid, xid, nodes);
-    let map = loaded.map;
+    let map = loaded.answer;
     match map {
-        Loading::Got(m) => with_map(image, reader, sb, m, loaded.nodes),
-        Loading::No(e) => VolumeOpened {
-            volume: VolumeOpening::No(e),
+        Ok(m) => with_map(image, reader, sb, m, loaded.nodes),
+        Err(e) => Counted {
+            answer: Err(e),
             nodes: loaded.nodes,
         },
     }
 }
 
 // Encrypted and sealed volumes are refused.
-fn open_of(image: &[u8], reader: Reader, sb: VolumeSuperblock, xid: u64, nodes: u64) -> VolumeOpened
-    ensures { open_told result ≡ tested_of image.now reader sb xid nodes }
+fn open_of(
+    image: &[u8],
+    reader: Reader,
+    sb: VolumeSuperblock,
+    xid: u64,
+    nodes: u64,
+) -> Counted<Volume>
+    ensures { result ≡ tested_of image.now reader sb xid nodes }
 {
     if sb.fs_flags % 2 == 0 {
-        return VolumeOpened {
-            volume: VolumeOpening::No(Refusal::Unsupported),
+        return Counted {
+            answer: Err(Refusal::Unsupported),
             nodes: nodes,
         };
     }
     if sb.incompat / 32 % 2 == 1 {
-        return VolumeOpened {
-            volume: VolumeOpening::No(Refusal::Unsupported),
+        return Counted {
+            answer: Err(Refusal::Unsupported),
             nodes: nodes,
         };
     }
@@ -156,35 +147,35 @@ fn open_of(image: &[u8], reader: Reader, sb: VolumeSuperblock, xid: u64, nodes: 
 }
 
 // The volume at an index of a container.
-pub fn open_volume(image: &[u8], c: Container, index: u64, nodes: u64) -> VolumeOpened
-    ensures { open_told result ≡ volume_open image.now c index nodes }
+pub fn open_volume(image: &[u8], c: Container, index: u64, nodes: u64) -> Counted<Volume>
+    ensures { result ≡ volume_open image.now c index nodes }
 {
     let found = volume_superblock(image, c, index, nodes);
-    let volume = found.volume;
+    let volume = found.answer;
     match volume {
-        VolumeRead::Got(sb) => {
+        Ok(sb) => {
             let reader = c.reader;
             let container = c.sb;
             open_of(image, reader, sb, container.xid, found.nodes)
         }
-        VolumeRead::No(e) => VolumeOpened {
-            volume: VolumeOpening::No(e),
+        Err(e) => Counted {
+            answer: Err(e),
             nodes: found.nodes,
         },
     }
 }
 
 // A volume of an image.
-pub fn open_at(image: &[u8], which: Which) -> VolumeOpened
-    ensures { open_told result ≡ volume_of_image image.now which }
+pub fn open_at(image: &[u8], which: Which) -> Counted<Volume>
+    ensures { result ≡ volume_of_image image.now which }
 {
     let checkpoint = which.checkpoint;
     let opened = nx::open(image, checkpoint);
-    let container = opened.container;
+    let container = opened.answer;
     match container {
-        Opening::Got(c) => open_volume(image, c, which.index, opened.nodes),
-        Opening::No(e) => VolumeOpened {
-            volume: VolumeOpening::No(e),
+        Ok(c) => open_volume(image, c, which.index, opened.nodes),
+        Err(e) => Counted {
+            answer: Err(e),
             nodes: opened.nodes,
         },
     }

@@ -7,12 +7,10 @@ use native.Mathlib.Omega.{arith}
 use borrow.Author.Rules.{rules}
 use lib.Dec.{leb}
 use lib.ListN.{length, drop, length-append}
-use Rattle.error.specs.Answer.{Answer, got, no, pick, if_le}
+use Rattle.error.specs.Answer.{Answer, Ok, Err, pick, if_le}
 use Rattle.error.specs.declared.Refusal.{Refusal}
 use Rattle.error.specs.declared.Refusal.TheVariants.{BufferTooShort}
 use Rattle.byte_fields.proofs.Little.{little_length}
-use Rattle.text.specs.declared.Position.{Position}
-use Rattle.text.specs.declared.Position.TheVariants.{At, No}
 use Rattle.calls.specs.Filled.{Filled, filled, filled_at}
 use Rattle.wrong_word.specs.Mends.{Mend, mends_in, entry, listed}
 
@@ -23,8 +21,8 @@ listed_length (m ∷ ms) = simp (length-append, little_length, listed_length ms)
 
 -- how many entries of 12 bytes
 abbrev twelfth : Answer ℕ → Answer ℕ
-twelfth (got n) = got (n / 12)
-twelfth (no e) = no e
+twelfth (Ok n) = Ok (n / 12)
+twelfth (Err e) = Err e
 
 abbrev twelfths : Filled → Filled
 twelfths f = record { answer = twelfth f.answer; buffer = f.buffer }
@@ -37,16 +35,16 @@ twelfths_in ms b = rw (listed_length ms) (of (leb (12 * length ms) (length b)))
     count = omega arith
 
     of : (d : Bool) →
-        twelfths (pick d (record { answer = got (12 * length ms); buffer = listed ms ++ drop (12 * length ms) b }) (record { answer = no BufferTooShort; buffer = b }))
-        ≡ pick d (record { answer = got (length ms); buffer = listed ms ++ drop (12 * length ms) b }) (record { answer = no BufferTooShort; buffer = b })
+        twelfths (pick d (record { answer = Ok (12 * length ms); buffer = listed ms ++ drop (12 * length ms) b }) (record { answer = Err BufferTooShort; buffer = b }))
+        ≡ pick d (record { answer = Ok (length ms); buffer = listed ms ++ drop (12 * length ms) b }) (record { answer = Err BufferTooShort; buffer = b })
     of true = rw count
     of false = refl
 
-module _ (ms : List Mend) (b out : List ℕ) (r : Position) (p : filled_at r out ≡ filled (listed ms) b) where
-  pub entries_in_lem : (n : ℕ) → r ≡ At n → filled_at (At (n / 12)) out ≡ mends_in ms b
+module _ (ms : List Mend) (b out : List ℕ) (r : Answer ℕ) (p : filled_at r out ≡ filled (listed ms) b) where
+  pub entries_in_lem : (n : ℕ) → r ≡ Ok n → filled_at (Ok (n / 12)) out ≡ mends_in ms b
   entries_in_lem n e = ap twelfths (rw e at p) ∙ twelfths_in ms b
 
-  pub entries_short : (e : Refusal) → r ≡ No e → filled_at (No e) out ≡ mends_in ms b
+  pub entries_short : (e : Refusal) → r ≡ Err e → filled_at (Err e) out ≡ mends_in ms b
   entries_short e q = ap twelfths (rw q at p) ∙ twelfths_in ms b
 
 pub ruleset counts = (rules, entries_in_lem, entries_short)

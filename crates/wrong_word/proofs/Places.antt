@@ -6,10 +6,10 @@ use mathlib.Core.List.{List, [], ◌∷◌}
 use native.Mathlib.Decide.{ℕ_discrete}
 use native.Mathlib.Omega.{arith}
 use lib.ListN.{length, get_or, set}
-use Rattle.error.specs.Answer.{pick, if_eq}
+use Rattle.error.specs.Answer.{if_eq}
 use Rattle.error.proofs.Laws.{same, other}
 use Rattle.byte_fields.specs.Number.{little}
-use Rattle.checksum.specs.Fletcher.{M, sum, running, words_at, words_of, s1, s2, valid}
+use Rattle.checksum.specs.Fletcher.{M, words_at, words_of, s1, s2, valid}
 use Rattle.wrong_word.specs.Mends.{Mend, mend, replaced, mends_at}
 use Rattle.wrong_word.specs.Inner.{words_of_residue, Sound, gap, Closes}
 use Rattle.wrong_word.proofs.Words.{words_length, word_at, replaced_length, replaced_before, replaced_words}

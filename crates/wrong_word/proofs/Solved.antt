@@ -2,30 +2,23 @@
 use Prim.Native.Nat.{ℕ, zero, suc, ◌+◌, ◌-◌, ◌*◌, ◌/◌, ◌%◌, ◌^◌, ◌≤◌, ◌<◌}
 use mathlib.Core.Path.{◌≡◌, refl, sym, ap, ◌∙◌}
 use mathlib.Core.Bool.{Bool, true, false}
-use mathlib.Core.List.{List, [], ◌∷◌, ◌++◌}
+use mathlib.Core.List.{List, []}
 use native.Mathlib.Nat.{mod-add-mod}
-use native.Mathlib.Decide.{ℕ_discrete, dec_lt}
+use native.Mathlib.Decide.{ℕ_discrete}
 use native.Mathlib.Omega.{arith}
-use mir.Syntax.{w8}
-use mir.Val.{Fits}
-use lib.ListN.{length, get_or}
-use Rattle.error.specs.Answer.{Answer, got, no, pick, if_le, if_eq}
-use Rattle.error.specs.declared.Refusal.{Refusal}
-use Rattle.error.proofs.Laws.{at_most_lem, same, other, eq_cases}
-use Rattle.byte_fields.specs.Number.{little, number_at, told}
-use Rattle.byte_fields.specs.declared.Number.{Number}
-use Rattle.byte_fields.specs.declared.Number.TheVariants.{Got, No}
-use Rattle.byte_fields.proofs.Laws.{small}
+use lib.ListN.{length}
+use Rattle.error.specs.Answer.{pick, if_eq}
+use Rattle.error.proofs.Laws.{same, other, eq_cases}
+use Rattle.byte_fields.specs.Number.{little}
 use Rattle.checksum.specs.Fletcher.{M, s1, s2, summed, valid}
 use Rattle.checksum.specs.declared.Sums.{Sums}
 use Rattle.checksum.proofs.Laws.{short, uneven}
-use Rattle.wrong_word.specs.Mends.{Mend, mend, replaced, mends_at, mends_from, mends_of}
-use Rattle.wrong_word.specs.Inner.{words_of_residue, gap, Closes, Within, gaps_with, solved_at, solved_from, solved, GapsWithin, Found}
+use Rattle.wrong_word.specs.Mends.{Mend, replaced, mends_at, mends_from, mends_of}
+use Rattle.wrong_word.specs.Inner.{words_of_residue, gap, Closes, gaps_with, solved_at, solved_from, Found}
 use Rattle.wrong_word.specs.declared.Gap.{Gap}
-use Rattle.wrong_word.specs.declared.Gaps.{Gaps}
-use Rattle.wrong_word.specs.declared.Gaps.TheVariants.{Nothing, Of}
 use Rattle.wrong_word.proofs.Words.{replaced_length}
 use Rattle.wrong_word.proofs.Places.{none_in, place_none, place_some}
+use Rattle.std.specs.Prelude.{None, Option}
 
 two : (a b c : ℕ) → (a % M + b + c) % M ≡ (a + b + c) % M
 two a b c = omega arith
@@ -51,18 +44,18 @@ module _ (b : List ℕ) where
       of true = refl
       of false = refl
 
-  pub found_sound : (d : Bool) → d ≡ valid b → d ≡ true → Found b Nothing
+  pub found_sound : (d : Bool) → d ≡ valid b → d ≡ true → Found b None
   unfolding mends_of
   found_sound d e h = let q : valid b ≡ true = sym e ∙ h in record { list = rw q; bounds = tt }
 
   -- a replacement keeps the length
-  pub found_short : length b < 32 → Found b Nothing
+  pub found_short : length b < 32 → Found b None
   found_short h = record {
     list = nothing_where (λ i k. none_in b (8 + 4 * i) (2 ^ 32) 0 (λ v x y. sym (short (replaced b (8 + 4 * i) v) (rw (replaced_length b (8 + 4 * i) v (omega arith)) h))));
     bounds = tt;
   }
 
-  pub found_uneven : (length b % 4 ≡ 0 → ⊥) → Found b Nothing
+  pub found_uneven : (length b % 4 ≡ 0 → ⊥) → Found b None
   found_uneven h = record {
     list = nothing_where (λ i k. none_in b (8 + 4 * i) (2 ^ 32) 0 (λ v x y. sym (uneven (replaced b (8 + 4 * i) v) (rw (replaced_length b (8 + 4 * i) v (omega arith)) h))));
     bounds = tt;
@@ -116,7 +109,7 @@ module _ (b : List ℕ) where
       unfolding mends_of
       all_here e = rw e (from_here ((length b - 8) / 4) 0 (omega arith))
 
-    pub found_gaps : (s : Sums) (x y : ℕ) (r : Gaps) → valid b ≡ false → s ≡ summed b → x ≡ little 4 b 0 → y ≡ little 4 b 4 → r ≡ gaps_with s x y → Found b r
+    pub found_gaps : (s : Sums) (x y : ℕ) (r : Option Gap) → valid b ≡ false → s ≡ summed b → x ≡ little 4 b 0 → y ≡ little 4 b 4 → r ≡ gaps_with s x y → Found b r
     unfolding gaps_with
     found_gaps s x y r e c u v w =
         rw w

@@ -1,24 +1,19 @@
 -- A sound object, by its sums; and which replacements make one.
-use Prim.Native.Nat.{ℕ, ◌+◌, ◌-◌, ◌*◌, ◌/◌, ◌%◌, ◌^◌, ◌≤◌, ◌<◌}
+use Prim.Native.Nat.{ℕ, ◌+◌, ◌-◌, ◌*◌, ◌%◌, ◌^◌, ◌≤◌, ◌<◌}
 use mathlib.Core.Path.{◌≡◌, refl, sym, ap, ◌∙◌}
-use mathlib.Core.Bool.{Bool, true, false}
+use mathlib.Core.Bool.{true}
 use mathlib.Core.List.{List}
 use native.Mathlib.Nat.{mul-add, add-mul, one-mul}
 use native.Mathlib.Omega.{arith}
-use mir.Syntax.{w8}
-use mir.Val.{Fits}
 use borrow.Author.Tests.{eq-eqb, eqb-true}
 use lib.Dec.{eqb}
-use lib.ListN.{length, get_or, set}
+use lib.ListN.{length}
 use Rattle.error.proofs.Laws.{at_most_lem, same}
 use Rattle.byte_fields.specs.Number.{little}
-use Rattle.byte_fields.proofs.Laws.{joined, small}
-use Rattle.checksum.specs.Fletcher.{M, sum, running, words_at, words_of, s1, s2, checksum, valid}
-use Rattle.wrong_word.specs.Mends.{replaced}
-use Rattle.wrong_word.specs.Inner.{Sound, gap, Closes}
+use Rattle.byte_fields.proofs.Laws.{joined}
+use Rattle.checksum.specs.Fletcher.{M, s1, s2, checksum, valid}
+use Rattle.wrong_word.specs.Inner.{Sound}
 use Rattle.wrong_word.proofs.Modulus.{complement, completes, congruent}
-use Rattle.wrong_word.proofs.Words.{words_length, word_at, replaced_length, replaced_before, replaced_words}
-use Rattle.wrong_word.proofs.Swap.{swap_sum, swap_running}
 
 -- the stored halves are the checksum's exactly where the sums are sound
 module _ (s t x y : ℕ) (h : x ≤ M) (k : y ≤ M) where

@@ -1,14 +1,12 @@
 -- How the list is found: a buyer may pass over this file. What the sums of an object lack, and what that gives at each place, is proved to be the list of
 -- specs/Mends.antt (`Found`, proofs/Solved.antt).
-use Rattle.std.specs.Prelude.{ℕ, zero, suc, ◌+◌, ◌-◌, ◌*◌, ◌/◌, ◌%◌, ◌^◌, ◌≤◌, ◌<◌, ◌≡◌, List, [], ◌∷◌, ◌++◌, length}
+use Rattle.std.specs.Prelude.{ℕ, zero, suc, ◌+◌, ◌-◌, ◌*◌, ◌/◌, ◌%◌, ◌^◌, ◌≤◌, ◌<◌, ◌≡◌, List, [], ◌∷◌, ◌++◌, length, None, Option, Some}
 use Rattle.error.specs.Answer.{if_eq}
 use Rattle.byte_fields.specs.Number.{little}
 use Rattle.checksum.specs.Fletcher.{M, s1, s2}
 use Rattle.checksum.specs.declared.Sums.{Sums}
 use Rattle.wrong_word.specs.Mends.{Mend, mend, mends_of}
 use Rattle.wrong_word.specs.declared.Gap.{Gap}
-use Rattle.wrong_word.specs.declared.Gaps.{Gaps}
-use Rattle.wrong_word.specs.declared.Gaps.TheVariants.{Nothing, Of}
 
 -- the sums s and t and the stored halves x and y of a sound object
 pub record Sound (s t x y : ℕ) : Type 0 where
@@ -36,9 +34,9 @@ pub record Within (g : Gap) : Type 0 where
   pub rest_less : g.rest < M
 
 -- from both sums and both stored halves
-unfoldable pub gaps_with : Sums → ℕ → ℕ → Gaps
+unfoldable pub gaps_with : Sums → ℕ → ℕ → Option Gap
 gaps_with s low high =
-    if_eq low 0 Nothing (if_eq high 0 Nothing (Of (record { by = M - (s.s1 + low + high) % M; rest = (s.s1 + s.s2 + low) % M })))
+    if_eq low 0 None (if_eq high 0 None (Some (record { by = M - (s.s1 + low + high) % M; rest = (s.s1 + s.s2 + low) % M })))
 
 -- at a place with k words from it on: the words of one residue, or none
 unfoldable pub solved_at : Gap → List ℕ → ℕ → ℕ → List Mend
@@ -49,15 +47,15 @@ unfoldable pub solved_from : Gap → List ℕ → ℕ → ℕ → List Mend
 solved_from g b zero p = []
 solved_from g b (suc n) p = solved_at g b (suc n) p ++ solved_from g b n (p + 4)
 
-abbrev pub solved : Gaps → List ℕ → List Mend
-solved Nothing b = []
-solved (Of g) b = solved_from g b ((length b - 8) / 4) 8
+abbrev pub solved : Option Gap → List ℕ → List Mend
+solved None b = []
+solved (Some g) b = solved_from g b ((length b - 8) / 4) 8
 
-abbrev pub GapsWithin : List ℕ → Gaps → Type 0
-GapsWithin b Nothing = Unit {0}
-GapsWithin b (Of g) = Within g × (8 ≤ length b)
+abbrev pub GapsWithin : List ℕ → Option Gap → Type 0
+GapsWithin b None = Unit {0}
+GapsWithin b (Some g) = Within g × (8 ≤ length b)
 
 -- the gaps of an object give its list
-pub record Found (b : List ℕ) (r : Gaps) : Type 0 where
+pub record Found (b : List ℕ) (r : Option Gap) : Type 0 where
   pub list : mends_of b ≡ solved r b
   pub bounds : GapsWithin b r

@@ -1,6 +1,6 @@
 -- Which single words of an object could be wrong, and what would stand in their place: every word is tried. Document 02, request 13. What this comes to
 -- is said in specs/Listed.antt.
-use Rattle.std.specs.Prelude.{ℕ, zero, suc, ◌+◌, ◌-◌, ◌/◌, ◌^◌, Bool, List, [], ◌∷◌, ◌++◌, length, take, drop}
+use Rattle.std.specs.Prelude.{ℕ, zero, suc, ◌+◌, ◌-◌, ◌/◌, ◌^◌, List, [], ◌∷◌, ◌++◌, length, take, drop}
 use Rattle.error.specs.Answer.{pick}
 use Rattle.byte_fields.specs.Number.{little_bytes}
 use Rattle.checksum.specs.Fletcher.{valid}

@@ -11,9 +11,10 @@ ghost use Rattle.byte_fields.specs.Number.{little_bytes};
 ghost use Rattle.wrong_word.specs.Mends.{mend, mends_of, mends_in, listed, entry};
 ghost use Rattle.wrong_word.specs.Inner.{words_of_residue, Within, gaps_with, Found, solved_at, solved_from, solved};
 
-use byte_fields::{Number, u32_at};
+use byte_fields::four;
 use checksum::{Sums, fletcher64, verify};
-use text::{Position, put_byte};
+use error::Refusal;
+use text::put_byte;
 
 const M: u64 = 4294967295;
 
@@ -24,25 +25,16 @@ struct Gap {
     rest: u64,
 }
 
-// Nothing: no word can be the wrong one.
-#[derive(Clone, Copy)]
-enum Gaps {
-    Nothing,
-    Of(Gap),
-}
-
 // From both sums and both stored halves. No checksum has a half of 0.
-fn gap_with(s: Sums, low: u64, high: u64) -> Gaps
+#[tactic(auto, unfolding(crate::specs::Inner::gaps_with, error::specs::Answer::if_eq))]
+fn gap_with(s: Sums, low: u64, high: u64) -> Option<Gap>
     requires { (s.s1 < M) × (s.s2 < M) × (low ≤ M) × (high ≤ M) }
     ensures { result ≡ gaps_with s low high }
 {
-    if low == 0 {
-        return Gaps::Nothing;
+    if low == 0 || high == 0 {
+        return None;
     }
-    if high == 0 {
-        return Gaps::Nothing;
-    }
-    Gaps::Of(Gap {
+    Some(Gap {
         by: M - (s.s1 + low + high) % M,
         rest: (s.s1 + s.s2 + low) % M,
     })
@@ -52,13 +44,11 @@ fn word(object: &[u8], at: usize) -> u64
     requires { at + 4 ≤ length object.now }
     ensures { (result ≡ little 4 object.now at) × (result ≤ M) }
 {
-    match u32_at(object, at) {
-        Number::Got(x) => x,
-        Number::No(_) => 0,
-    }
+    four(object, at) as u64
 }
 
-fn gap_in(object: &[u8]) -> Gaps
+#[tactic(auto, using(crate::proofs::Laws::summed_first, crate::proofs::Laws::summed_second, crate::proofs::Laws::found_in_lem))]
+fn gap_in(object: &[u8]) -> Option<Gap>
     requires { (32 ≤ length object.now) × (length object.now % 4 ≡ 0) × (valid object.now ≡ false) }
     ensures { Found object.now result }
 {
@@ -69,22 +59,21 @@ fn gap_in(object: &[u8]) -> Gaps
 }
 
 // A sound object and one whose length is invalid have no wrong word.
-fn gap_of(object: &[u8]) -> Gaps
+#[tactic(auto, using(crate::proofs::Solved::found_sound, crate::proofs::Solved::found_short, crate::proofs::Solved::found_uneven, crate::proofs::Laws::fails_so))]
+fn gap_of(object: &[u8]) -> Option<Gap>
     ensures { Found object.now result }
 {
     if verify(object) {
-        return Gaps::Nothing;
+        return None;
     }
-    if object.len() < 32 {
-        return Gaps::Nothing;
-    }
-    if object.len() % 4 != 0 {
-        return Gaps::Nothing;
+    if object.len() < 32 || object.len() % 4 != 0 {
+        return None;
     }
     gap_in(object)
 }
 
 // Whether a word that has `left` words from it on, itself counted, would close the second sum too.
+#[tactic(auto, using(crate::proofs::Laws::weight_fits, crate::proofs::Laws::total_fits, crate::proofs::Laws::weight_reduced))]
 fn closes(g: Gap, left: u64) -> bool
     requires { Within g × (left < 2 ^ 63) }
     ensures { result ≡ eqb ((g.rest + (left + 1) * g.by) % M) 0 }
@@ -94,21 +83,33 @@ fn closes(g: Gap, left: u64) -> bool
 }
 
 // The n lowest bytes of a number, the lowest first.
-fn put_number(out: &mut [u8], room: usize, p: Position, n: u32, x: u64) -> Position
+#[tactic(auto, using(crate::proofs::Laws::little_start))]
+fn put_number(
+    out: &mut [u8],
+    room: usize,
+    p: Result<usize, Refusal>,
+    n: u32,
+    x: u64,
+) -> Result<usize, Refusal>
     ensures { output_of result out.new ≡ puts room (little_bytes n x) (output_of p out.old) }
 {
     let mut q = p;
     let mut rest = x;
-    let mut i: u32 = 0;
-    while i < n {
+    for _ in 0..n {
         q = put_byte(out, room, q, (rest % 256) as u8);
-        rest = rest / 256;
-        i += 1;
+        rest /= 256;
     }
     q
 }
 
-fn put_mend(out: &mut [u8], room: usize, p: Position, place: u64, word: u64) -> Position
+#[tactic(auto, using(crate::proofs::Laws::then_word))]
+fn put_mend(
+    out: &mut [u8],
+    room: usize,
+    p: Result<usize, Refusal>,
+    place: u64,
+    word: u64,
+) -> Result<usize, Refusal>
     ensures { output_of result out.new ≡ puts room (entry (mend place word)) (output_of p out.old) }
 {
     let a = put_number(out, room, p, 8, place);
@@ -116,7 +117,14 @@ fn put_mend(out: &mut [u8], room: usize, p: Position, place: u64, word: u64) -> 
 }
 
 // The words 0 and 0xFFFFFFFF are two, and have one residue.
-fn put_words(out: &mut [u8], room: usize, p: Position, place: u64, residue: u64) -> Position
+#[tactic(auto, using(crate::proofs::Laws::two_words, crate::proofs::Laws::one_word))]
+fn put_words(
+    out: &mut [u8],
+    room: usize,
+    p: Result<usize, Refusal>,
+    place: u64,
+    residue: u64,
+) -> Result<usize, Refusal>
     ensures { output_of result out.new ≡ puts room (listed (words_of_residue place residue)) (output_of p out.old) }
 {
     if residue == 0 {
@@ -127,15 +135,16 @@ fn put_words(out: &mut [u8], room: usize, p: Position, place: u64, residue: u64)
 }
 
 // What is listed at a place that has `left` words from it on.
+#[tactic(auto, using(crate::proofs::Laws::place_listed, crate::proofs::Laws::place_passed))]
 fn put_at(
     out: &mut [u8],
     room: usize,
-    p: Position,
+    p: Result<usize, Refusal>,
     g: Gap,
     object: &[u8],
     left: usize,
     at: usize,
-) -> Position
+) -> Result<usize, Refusal>
     requires { Within g × (left < 2 ^ 63) × (at + 4 ≤ length object.now) }
     ensures { output_of result out.new ≡ puts room (listed (solved_at g object.now left at)) (output_of p out.old) }
 {
@@ -146,50 +155,51 @@ fn put_at(
     p
 }
 
-fn put_all_places(out: &mut [u8], room: usize, p: Position, g: Gap, object: &[u8]) -> Position
+#[tactic(auto, using(crate::proofs::Laws::places_start))]
+fn put_all_places(
+    out: &mut [u8],
+    room: usize,
+    p: Result<usize, Refusal>,
+    g: Gap,
+    object: &[u8],
+) -> Result<usize, Refusal>
     requires { Within g × (8 ≤ length object.now) }
     ensures { output_of result out.new ≡ puts room (listed (solved_from g object.now ((length object.now - 8) / 4) 8)) (output_of p out.old) }
 {
     let mut q = p;
-    let mut left = (object.len() - 8) / 4;
-    let mut at = 8;
-    while 0 < left {
-        q = put_at(out, room, q, g, object, left, at);
-        left -= 1;
-        at += 4;
+    let n = (object.len() - 8) / 4;
+    for i in 0..n {
+        q = put_at(out, room, q, g, object, n - i, 8 + 4 * i);
     }
     q
 }
 
 // Measured first: a buffer that is too short is left as it was.
-fn show(g: Gap, object: &[u8], out: &mut [u8]) -> Position
+#[tactic(auto, using(calls::proofs::Filling::filled_short, calls::proofs::Filling::filled_written))]
+fn show(g: Gap, object: &[u8], out: &mut [u8]) -> Result<usize, Refusal>
     requires { Within g × (8 ≤ length object.now) }
     ensures { filled_at result out.new ≡ filled (listed (solved_from g object.now ((length object.now - 8) / 4) 8)) out.old }
 {
     let room = out.len();
-    match put_all_places(&mut out[..0], room, Position::At(0), g, object) {
-        Position::No(e) => Position::No(e),
-        Position::At(_) => put_all_places(out, room, Position::At(0), g, object),
-    }
+    put_all_places(&mut out[..0], room, Ok(0), g, object)?;
+    put_all_places(out, room, Ok(0), g, object)
 }
 
 // The bytes of the list.
-fn put_list(object: &[u8], out: &mut [u8]) -> Position
+#[tactic(auto, using(crate::proofs::Laws::none_filled, crate::proofs::Laws::some_filled, crate::proofs::Laws::found_within, crate::proofs::Laws::found_long))]
+fn put_list(object: &[u8], out: &mut [u8]) -> Result<usize, Refusal>
     ensures { filled_at result out.new ≡ filled (listed (mends_of object.now)) out.old }
 {
-    let gaps = gap_of(object);
-    match gaps {
-        Gaps::Nothing => Position::At(0),
-        Gaps::Of(g) => show(g, object, out),
+    match gap_of(object) {
+        None => Ok(0),
+        Some(g) => show(g, object, out),
     }
 }
 
 // The list of an object, 12 bytes an entry; how many there are.
-pub fn wrong_words(object: &[u8], out: &mut [u8]) -> Position
+pub fn wrong_words(object: &[u8], out: &mut [u8]) -> Result<usize, Refusal>
     ensures { filled_at result out.new ≡ mends_in (mends_of object.now) out.old }
 {
-    match put_list(object, out) {
-        Position::At(n) => Position::At(n / 12),
-        Position::No(e) => Position::No(e),
-    }
+    let n = put_list(object, out)?;
+    Ok(n / 12)
 }

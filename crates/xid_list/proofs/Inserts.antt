@@ -6,7 +6,6 @@ use mir.Syntax.{w8}
 use mir.Val.{Fits}
 use native.Mathlib.Nat.{sub-zero}
 use native.Mathlib.Omega.{arith}
-use borrow.Author.Rules.{rules}
 use lib.ListN.{get_or}
 use lib.Seq.{sets}
 use Rattle.byte_fields.specs.Number.{little, little_bytes}
@@ -14,7 +13,7 @@ use Rattle.byte_fields.proofs.Little.{little_length, sets_after, sets_append, st
 use Rattle.checkpoints.specs.Numbers.{insert}
 use Rattle.xid_list.specs.Listed.{bytes_of}
 use Rattle.xid_list.specs.Inner.{held_in}
-use Rattle.xid_list.proofs.Held.{held_same, insert_held}
+use Rattle.xid_list.proofs.Held.{held_same}
 
 -- what storing a number before others comes to
 first_stored : (b : List ℕ) (at x : ℕ) (l : List ℕ) → sets b at (bytes_of (x ∷ l)) ≡ sets (sets b at (little_bytes 8 x)) (at + 8) (bytes_of l)
@@ -57,7 +56,3 @@ module _ (b : List ℕ) (at x y : ℕ) (e : y ≡ little 8 b at) where
 
   pub carry_stored : (c : List ℕ) → y ≤ x → c ≡ sets b at (little_bytes 8 x) → c ≡ sets b at (little_bytes 8 (max x (little 8 b at)))
   carry_stored c h f = let q : max x (little 8 b at) ≡ x = omega arith in rw q f
-
-pub ruleset inserting = (rules, insert_start, insert_done, insert_turn, insert_held)
-
-pub ruleset carrying = (rules, carry_own, carry_kept, carry_other, carry_stored)

@@ -2,23 +2,21 @@
 use Prim.Native.Nat.{ℕ, zero, suc, ◌+◌, ◌-◌, ◌*◌, ◌^◌, ◌≤◌, ◌<◌}
 use mathlib.Core.Path.{◌≡◌, sym, ap, ◌∙◌}
 use mathlib.Core.List.{List, [], ◌∷◌, ◌++◌}
-use mathlib.Core.Option.{Option, none, some}
+use Rattle.std.specs.Prelude.{Option}
 use mir.Syntax.{w64}
 use mir.Val.{Fits}
 use native.Mathlib.Nat.{sub-zero}
 use native.Mathlib.Omega.{arith}
-use borrow.Author.Rules.{rules}
 use lib.ListN.{length, drop}
 use lib.Seq.{sets, drop-drop, drop_at}
 use Rattle.obj.specs.declared.reader.Reader.{Reader}
-use Rattle.checkpoints.specs.Superblock.{found_told}
 use Rattle.checkpoints.specs.Checkpoint.{accepted_at, block_place}
 use Rattle.checkpoints.specs.Numbers.{kept, numbers_in, insert, descending}
 use Rattle.checkpoints.specs.declared.superblock.Superblock.{Superblock}
-use Rattle.checkpoints.specs.declared.superblock.Found.{Found}
 use Rattle.xid_list.specs.Listed.{bytes_of}
 use Rattle.xid_list.specs.Inner.{held_in}
 use Rattle.xid_list.proofs.Held.{bytes_length, descending_length, insert_bytes}
+use Rattle.std.specs.Prelude.{None, Some}
 
 module _ (r : Reader) (image : List ℕ) (start ring : ℕ) where
   abbrev pub numbers_from : ℕ → List ℕ
@@ -30,8 +28,8 @@ module _ (r : Reader) (image : List ℕ) (start ring : ℕ) where
   fewer (suc n) k = of (accepted_at r image ring (block_place r start k)) (fewer n (k + 1))
     where
       of : (a : Option Superblock) → length (numbers_in r image start ring n (k + 1)) ≤ n → length (kept a (numbers_in r image start ring n (k + 1))) ≤ suc n
-      of (some sb) h = omega arith
-      of none h = omega arith
+      of (Some sb) h = omega arith
+      of None h = omega arith
 
   pub most : length (numbers_in r image start ring ring 0) ≤ ring
   most = fewer ring 0
@@ -47,9 +45,6 @@ module _ (r : Reader) (image : List ℕ) (start ring : ℕ) where
       let t : i - 1 + 1 ≡ i = omega arith in
       rw (q, t)
 
-  pub all_from : numbers_from 0 ≡ numbers_in r image start ring ring 0
-  all_from = rw sub-zero
-
   -- the numbers from a place on are no more than all
   pub part_of_all : (i : ℕ) → i ≤ ring → length (numbers_from i) ≤ length (numbers_in r image start ring ring 0)
   part_of_all zero h = rw sub-zero (omega arith)
@@ -59,18 +54,18 @@ module _ (r : Reader) (image : List ℕ) (start ring : ℕ) where
       of (accepted_at r image ring (block_place r start i)) (rw e at p)
     where
       of : (a : Option Superblock) → length (kept a (numbers_from (suc i))) ≤ length (numbers_in r image start ring ring 0) → length (numbers_from (suc i)) ≤ length (numbers_in r image start ring ring 0)
-      of (some sb) q = omega arith
-      of none q = q
+      of (Some sb) q = omega arith
+      of None q = q
 
   -- ---- counting
-  module _ (i n : ℕ) (h : 0 < i) (k : i ≤ ring) (p : n ≡ length (numbers_from i)) (x : Found) (e : found_told x ≡ accepted_at r image ring (block_place r start (i - 1))) where
-    here : numbers_from (i - 1) ≡ kept (found_told x) (numbers_from i)
+  module _ (i n : ℕ) (h : 0 < i) (k : i ≤ ring) (p : n ≡ length (numbers_from i)) (x : Option Superblock) (e : x ≡ accepted_at r image ring (block_place r start (i - 1))) where
+    here : numbers_from (i - 1) ≡ kept x (numbers_from i)
     here = one_from i h k ∙ ap (λ (a : Option Superblock). kept a (numbers_from i)) (sym e)
 
-    pub count_one : (sb : Superblock) → x ≡ Found.Got sb → n + 1 ≡ length (numbers_from (i - 1))
+    pub count_one : (sb : Superblock) → x ≡ Some sb → n + 1 ≡ length (numbers_from (i - 1))
     count_one sb q = rw (here, q) (omega arith)
 
-    pub count_none : x ≡ Found.Nothing → n ≡ length (numbers_from (i - 1))
+    pub count_none : x ≡ None → n ≡ length (numbers_from (i - 1))
     count_none q = rw (here, q) p
 
   pub count_fits : (i n : ℕ) → 0 < i → i ≤ ring → ring < 2 ^ 32 → n ≡ length (numbers_from i) → Fits w64 (n + 1)
@@ -92,13 +87,13 @@ module _ (r : Reader) (image : List ℕ) (start ring : ℕ) where
   unfolding descending bytes_of held_in
   stored_start b₀ = record { count = count_start; bytes = rw nothing_from; held = rw nothing_from }
 
-  module _ (b₀ : List ℕ) (i n : ℕ) (b : List ℕ) (h : 0 < i) (k : i ≤ ring) (s : Stored b₀ i n b) (x : Found) (e : found_told x ≡ accepted_at r image ring (block_place r start (i - 1))) where
-    pub stored_none : x ≡ Found.Nothing → Stored b₀ (i - 1) n b
+  module _ (b₀ : List ℕ) (i n : ℕ) (b : List ℕ) (h : 0 < i) (k : i ≤ ring) (s : Stored b₀ i n b) (x : Option Superblock) (e : x ≡ accepted_at r image ring (block_place r start (i - 1))) where
+    pub stored_none : x ≡ None → Stored b₀ (i - 1) n b
     stored_none q =
         let w : numbers_from (i - 1) ≡ numbers_from i = here i n h k s.count x e ∙ (rw q) in
         record { count = rw w s.count; bytes = rw w s.bytes; held = rw w s.held }
 
-    module _ (sb : Superblock) (q : x ≡ Found.Got sb) where
+    module _ (sb : Superblock) (q : x ≡ Some sb) where
       more : numbers_from (i - 1) ≡ sb.xid ∷ numbers_from i
       more = here i n h k s.count x e ∙ (rw q)
 
@@ -130,7 +125,3 @@ module _ (r : Reader) (image : List ℕ) (start ring : ℕ) where
 
     pub stored_bytes : i ≤ 0 → b ≡ bytes_of (descending (numbers_in r image start ring ring 0)) ++ drop (8 * n) b₀
     stored_bytes h = let q : i ≡ 0 = omega arith in rw (q, sub-zero) at s.bytes
-
-pub ruleset counting = (rules, count_start, count_one, count_none, count_fits, count_done)
-
-pub ruleset storing = (rules, stored_start, stored_none, stored_room, stored_one, stored_fits, stored_count, stored_bytes)

@@ -1,6 +1,6 @@
 -- The list of transaction numbers in a lent buffer. Document 02, request 04.
 use Rattle.std.specs.Prelude.{ℕ, List, [], ◌∷◌, ◌++◌, length}
-use Rattle.error.specs.Answer.{Answer, got, no}
+use Rattle.error.specs.Answer.{Answer, Ok, Err}
 use Rattle.byte_fields.specs.Number.{little_bytes}
 use Rattle.calls.specs.Filled.{Filled, entries_in}
 
@@ -14,5 +14,5 @@ unfoldable pub xids_in : List ℕ → List ℕ → Filled
 xids_in l b = entries_in 8 (length l) (bytes_of l) b
 
 abbrev pub xids_by : Answer (List ℕ) → List ℕ → Filled
-xids_by (got l) b = xids_in l b
-xids_by (no e) b = record { answer = no e; buffer = b }
+xids_by (Ok l) b = xids_in l b
+xids_by (Err e) b = record { answer = Err e; buffer = b }

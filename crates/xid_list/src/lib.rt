@@ -10,26 +10,38 @@ ghost use Rattle.calls.specs.Filled.{filled_at};
 ghost use Rattle.xid_list.specs.Listed.{xids_by};
 
 use crate::ring::{count_accepted, write_accepted};
-use byte_fields::Number;
 use error::Refusal;
-use geometry::{Geometry, Measured, area_at, geometry_at};
+use geometry::{Geometry, area_at, geometry_at};
 use obj::Reader;
-use text::Position;
 
 // Where there is room for all of them.
-fn list_fitting(reader: Reader, image: &[u8], start: u64, ring: u32, out: &mut [u8]) -> Position
+#[tactic(auto, using(crate::proofs::Lists::listed_none, crate::proofs::Lists::listed_some))]
+fn list_fitting(
+    reader: Reader,
+    image: &[u8],
+    start: u64,
+    ring: u32,
+    out: &mut [u8],
+) -> Result<usize, Refusal>
     requires { (start + ring * reader.block_size < 2 ^ 64) × (8 * length (numbers_in reader image.now start ring ring 0) ≤ length out.old) }
     ensures { filled_at result out.new ≡ xids_by (some_numbers (descending (numbers_in reader image.now start ring ring 0))) out.old }
 {
     let n = write_accepted(reader, image, start, ring, out);
     if n == 0 {
-        return Position::No(Refusal::Corrupt);
+        return Err(Refusal::Corrupt);
     }
-    Position::At(n)
+    Ok(n)
 }
 
 // Counted first, unless there is room for every block: a buffer that is too short is left as it was.
-fn list_ring(reader: Reader, image: &[u8], start: u64, ring: u32, out: &mut [u8]) -> Position
+#[tactic(auto, using(crate::proofs::Lists::listed_short, crate::proofs::Lists::room_for_ring, crate::proofs::Lists::room_for_count, crate::proofs::Rings::most))]
+fn list_ring(
+    reader: Reader,
+    image: &[u8],
+    start: u64,
+    ring: u32,
+    out: &mut [u8],
+) -> Result<usize, Refusal>
     requires { start + ring * reader.block_size < 2 ^ 64 }
     ensures { filled_at result out.new ≡ xids_by (some_numbers (descending (numbers_in reader image.now start ring ring 0))) out.old }
 {
@@ -38,28 +50,26 @@ fn list_ring(reader: Reader, image: &[u8], start: u64, ring: u32, out: &mut [u8]
         return list_fitting(reader, image, start, ring, out);
     }
     if room < count_accepted(reader, image, start, ring) {
-        return Position::No(Refusal::BufferTooShort);
+        return Err(Refusal::BufferTooShort);
     }
     list_fitting(reader, image, start, ring, out)
 }
 
-fn list_area(image: &[u8], g: Geometry, out: &mut [u8]) -> Position
+#[tactic(auto, using(geometry::proofs::Area::area_fits), unfolding(checkpoints::specs::Numbers::numbers_of, error::specs::Answer::if_le, error::specs::Answer::if_eq))]
+fn list_area(image: &[u8], g: Geometry, out: &mut [u8]) -> Result<usize, Refusal>
     ensures { filled_at result out.new ≡ xids_by (numbers_of image.now g) out.old }
 {
-    match area_at(image.len(), g) {
-        Number::Got(start) => list_ring(g.reader, image, start, g.ring, out),
-        Number::No(e) => Position::No(e),
-    }
+    let start = area_at(image.len(), g)?;
+    list_ring(g.reader, image, start, g.ring, out)
 }
 
-pub fn list_xids(image: &[u8], out: &mut [u8]) -> Position
+#[tactic(auto, unfolding(checkpoints::specs::Numbers::numbers_at, error::specs::Answer::if_le, error::specs::Answer::if_eq))]
+pub fn list_xids(image: &[u8], out: &mut [u8]) -> Result<usize, Refusal>
     ensures { filled_at result out.new ≡ xids_by (numbers_at image.now) out.old }
 {
     if 17179869184 < image.len() {
-        return Position::No(Refusal::ImageTooLarge);
+        return Err(Refusal::ImageTooLarge);
     }
-    match geometry_at(image) {
-        Measured::Got(g) => list_area(image, g, out),
-        Measured::No(e) => Position::No(e),
-    }
+    let g = geometry_at(image)?;
+    list_area(image, g, out)
 }

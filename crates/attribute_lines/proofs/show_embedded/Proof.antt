@@ -14,6 +14,6 @@ show_embedded_spec =
     (λ c. search rules)
     (λ c κs. search rules)
     (λ c. search rules)
-    (λ c. filled_short _ _ c.put_attribute_embedded.new.out _ c.put_attribute_embedded.auto.out c.put_attribute_embedded.ensures _ c.in-No.is)
+    (λ c. filled_short _ _ c.put_attribute_embedded.new.out _ c.put_attribute_embedded.auto.out c.put_attribute_embedded.ensures _ c.in-Err.is)
     (λ c. search rules)
-    (λ c. filled_written _ _ c.put_attribute_embedded.new.out _ c.put_attribute_embedded.auto.out c.put_attribute_embedded.ensures _ c.put_attribute_embedded-in-At.result c.put_attribute_embedded-in-At.new.out c.in-At.is c.put_attribute_embedded-in-At.ensures))
+    (λ c. filled_written _ _ c.put_attribute_embedded.new.out _ c.put_attribute_embedded.auto.out c.put_attribute_embedded.ensures _ c.put_attribute_embedded-in-Ok.result c.put_attribute_embedded-in-Ok.new.out c.in-Ok.is c.put_attribute_embedded-in-Ok.ensures))

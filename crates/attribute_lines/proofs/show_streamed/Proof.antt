@@ -14,6 +14,6 @@ show_streamed_spec =
     (λ c. search rules)
     (λ c κs. search rules)
     (λ c. search rules)
-    (λ c. filled_short _ _ c.put_streamed.new.out _ c.put_streamed.auto.out c.put_streamed.ensures _ c.in-No.is)
+    (λ c. filled_short _ _ c.put_streamed.new.out _ c.put_streamed.auto.out c.put_streamed.ensures _ c.in-Err.is)
     (λ c. search rules)
-    (λ c. filled_written _ _ c.put_streamed.new.out _ c.put_streamed.auto.out c.put_streamed.ensures _ c.put_streamed-in-At.result c.put_streamed-in-At.new.out c.in-At.is c.put_streamed-in-At.ensures))
+    (λ c. filled_written _ _ c.put_streamed.new.out _ c.put_streamed.auto.out c.put_streamed.ensures _ c.put_streamed-in-Ok.result c.put_streamed-in-Ok.new.out c.in-Ok.is c.put_streamed-in-Ok.ensures))

@@ -7,7 +7,6 @@ use Rattle.cursor.specs.Left.{run_at}
 use Rattle.cursor.proofs.Through.{rest}
 use Rattle.records.specs.Directory.{entry_at}
 use Rattle.lists.specs.Inner.{readable}
-use Rattle.lists.proofs.Turns.{seens, entry_one, entry_refused}
 use Rattle.entry_lines.specs.Entries.{lines_of, fitting}
 use Rattle.entry_lines.proofs.Fitting.{writes, walks, lines_over, lines_no, lines_full, lines_next, lines_done}
 use Rattle.entry_lines.proofs.put_entries.Statement.{statement}
@@ -32,20 +31,20 @@ put_entries_spec =
     (λ c κs. search walks)
     (λ c. search walks)
     (λ c. search walks)
-    (λ c. lines_done c.args.image.now c.args.v _ c.args.place _ _ c.args.start c.args.out.now _ c.search-q.ensures (lines_over _ _ _ _ _ _ _ _ _ _ c.loop-c.invariant.0 _ c.entry_in.ensures (search seens)))
+    (λ c. lines_done c.args.image.now c.args.v _ c.args.place _ _ c.args.start c.args.out.now _ c.search-q.ensures (lines_over _ _ _ _ _ _ _ _ _ _ c.loop-c.invariant.0 _ c.entry_in.ensures (search rules)))
     (λ c. search walks)
     (λ c. search walks)
-    (λ c. lines_done c.args.image.now c.args.v _ c.args.place _ _ c.args.start c.args.out.now _ c.search-q.ensures (lines_no _ _ _ _ _ _ _ _ _ _ c.loop-c.invariant.0 _ c.entry_in.ensures _ (entry_refused _ _ c.in-No.is)))
-    (λ c. search walks)
-    (λ c κs. search walks)
-    (λ c. search walks)
-    (λ c. search walks)
+    (λ c. lines_done c.args.image.now c.args.v _ c.args.place _ _ c.args.start c.args.out.now _ c.search-q.ensures (lines_no _ _ _ _ _ _ _ _ _ _ c.loop-c.invariant.0 _ c.entry_in.ensures _ c.in-Refused.is))
     (λ c. search walks)
     (λ c κs. search walks)
     (λ c. search walks)
     (λ c. search walks)
-    (λ c. lines_done c.args.image.now c.args.v _ c.args.place _ _ c.args.start c.args.out.now _ c.search-q.ensures (lines_full _ _ _ _ _ _ _ _ _ _ c.loop-c.invariant.0 _ c.entry_in.ensures _ _ (entry_one _ _ _ c.in-At.is) c.loop-c.invariant.1 _ _ c.put_next.ensures _ c.in-No-put_next.is))
     (λ c. search walks)
     (λ c κs. search walks)
     (λ c. search walks)
-    (λ c. (lines_next _ _ _ _ _ _ _ _ _ _ c.loop-c.invariant.0 _ c.entry_in.ensures _ _ (entry_one _ _ _ c.in-At.is) c.loop-c.invariant.1 _ _ c.put_next.ensures _ _ c.in-At-put_next.is c.fewer-left.ensures, search walks, search walks)))
+    (λ c. search walks)
+    (λ c. lines_done c.args.image.now c.args.v _ c.args.place _ _ c.args.start c.args.out.now _ c.search-q.ensures (lines_full _ _ _ _ _ _ _ _ _ _ c.loop-c.invariant.0 _ c.entry_in.ensures _ _ c.in-Element.is c.loop-c.invariant.1 _ _ c.put_next.ensures _ c.in-Err.is))
+    (λ c. search walks)
+    (λ c κs. search walks)
+    (λ c. search walks)
+    (λ c. (lines_next _ _ _ _ _ _ _ _ _ _ c.loop-c.invariant.0 _ c.entry_in.ensures _ _ c.in-Element.is c.loop-c.invariant.1 _ _ c.put_next.ensures _ _ c.in-Ok.is c.fewer-left.ensures, search walks, search walks)))

@@ -1,17 +1,14 @@
--- `totals::has_lf` meets its contract.
 use Rattle.std.proofs.Common.{rules, refl}
 use Rattle.totals.proofs.Turns.{lf_over, lf_here, lf_later}
 use Rattle.totals.proofs.has_lf.Goals as goal
-use Rattle.totals.proofs.has_lf.Goals.{then-b-i-eq10, else-b-i-eq10}
+use Rattle.totals.proofs.has_lf.Goals.{then-x-eq10, else-x-eq10}
 
-ruleset all = (rules, refl, lf_over)
+pub loop-x-init : goal.loop-x-init
+loop-x-init c = search (rules, refl)
 
-pub loop-i-init : goal.loop-i-init
-loop-i-init c = search all
-
-pub loop-i-preserved : goal.loop-i-preserved
-loop-i-preserved c =
-    elim c.if-b-i-eq10.branch [ then-b-i-eq10 w ↦ rw w.any-is (lf_here c.args.b.now _ c.loop-i.any _ c.loop-i.invariant c.loop-i-test.true w.if-b-i-eq10.true) | else-b-i-eq10 w ↦ rw w.any-is (lf_later c.args.b.now _ c.loop-i.any _ c.loop-i.invariant c.loop-i-test.true w.if-b-i-eq10.false) ]
+pub loop-x-preserved : goal.loop-x-preserved
+loop-x-preserved c =
+    elim c.if-x-eq10.branch [ then-x-eq10 w ↦ rw w.any-is (lf_here c.args.b.now _ c.loop-x.any _ c.loop-x.invariant c.loop-x-test.true w.if-x-eq10.true) | else-x-eq10 w ↦ rw w.any-is (lf_later c.args.b.now _ c.loop-x.any _ c.loop-x.invariant c.loop-x-test.true w.if-x-eq10.false) ]
 
 pub returns : goal.returns
-returns c = search all
+returns c = search (rules, lf_over)

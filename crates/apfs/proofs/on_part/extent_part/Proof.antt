@@ -15,5 +15,5 @@ extent_part_spec =
     (λ c. search rules)
     (λ c κs. search rules)
     (λ c. search rules)
-    (λ c. rw (← c.part_of_image.ensures, c.in-Got.is, ← c.part.ensures) (search ends))
-    (λ c. rw (← c.part_of_image.ensures, c.in-No.is) (search ends)))
+    (λ c. rw (← c.part_of_image.ensures, c.in-Ok.is, ← c.part.ensures) (search ends))
+    (λ c. rw (← c.part_of_image.ensures, c.in-Err.is) (search ends)))

@@ -18,6 +18,6 @@ list_part_spec =
     (λ c κs. search rules)
     (λ c κs. search listed)
     (λ c. search rules)
-    (λ c. rw (← c.part_of_image.ensures, c.in-Got.is, ← c.part.ensures) (search listed))
+    (λ c. rw (← c.part_of_image.ensures, c.in-Ok.is, ← c.part.ensures) (search listed))
     (λ c. search rules)
-    (λ c. rw (← c.part_of_image.ensures, c.in-No.is) (search listed)))
+    (λ c. rw (← c.part_of_image.ensures, c.in-Err.is) (search listed)))

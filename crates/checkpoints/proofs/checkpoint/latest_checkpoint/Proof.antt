@@ -1,7 +1,6 @@
 use borrow.Author.Rules.{rules}
 use Prim.Native.Nat.{◌+◌, ◌-◌, ◌*◌, ◌^◌, ◌≤◌, ◌<◌}
 use mathlib.Core.Path.{◌≡◌}
-use Rattle.checkpoints.specs.Superblock.{found_told}
 use Rattle.checkpoints.specs.Checkpoint.{latest_in}
 use Rattle.checkpoints.proofs.Choosing.{latest_start, latest_turn, latest_done}
 use Rattle.checkpoints.proofs.checkpoint.latest_checkpoint.Statement.{statement}
@@ -10,7 +9,7 @@ use Rattle.checkpoints.proofs.checkpoint.latest_checkpoint.Tie as tie
 ruleset turns = (rules, latest_start, latest_turn, latest_done)
 
 abbrev invariant-loop : tie.invariant-loop-i
-invariant-loop reader image start ring best₀ i₀ best i = (i ≤ ring) × (start + ring * reader.block_size < 2 ^ 64) × (found_told best ≡ latest_in reader image start ring (ring - i) i)
+invariant-loop reader image start ring best₀ i₀ best i = (i ≤ ring) × (start + ring * reader.block_size < 2 ^ 64) × (best ≡ latest_in reader image start ring (ring - i) i)
 
 abbrev decreases-loop : tie.decreases-loop-i
 decreases-loop reader image start ring best₀ i₀ best i = i

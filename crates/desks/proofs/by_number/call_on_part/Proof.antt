@@ -13,6 +13,6 @@ call_on_part_spec =
     (λ c. search rules)
     (λ c κs. search rules)
     (λ c. search rules)
-    (λ c. rw (← c.part_of_image.ensures, c.in-Got.is, ← c.part.ensures) c.call_in.ensures)
+    (λ c. rw (← c.part_of_image.ensures, c.in-Ok.is, ← c.part.ensures) c.call_in.ensures)
     (λ c. search rules)
-    (λ c. rw (← c.part_of_image.ensures, c.in-No.is) c.no_part.ensures))
+    (λ c. rw (← c.part_of_image.ensures, c.in-Err.is) c.no_part.ensures))

@@ -5,7 +5,6 @@ use Rattle.cursor.specs.Left.{run_at}
 use Rattle.cursor.proofs.Through.{rest}
 use Rattle.records.specs.Attribute.{attribute_at}
 use Rattle.lists.specs.Inner.{readable}
-use Rattle.lists.proofs.Turns.{seens}
 use Rattle.forms.specs.Course.{attribute_courses}
 use Rattle.forms.specs.Inner.{stand_of, go}
 use Rattle.forms.proofs.Walking.{walks, attributes_next}
@@ -44,4 +43,4 @@ put_attributes_spec =
     (λ c. search walks)
     (λ c κs. search walks)
     (λ c. search walks)
-    (λ c. (attributes_next _ _ c.args.v _ _ _ _ _ c.loop-o.invariant.0 _ c.attribute_in.ensures _ _ _ (search seens) c.put_attribute-o.ensures, search rules)))
+    (λ c. (attributes_next _ _ c.args.v _ _ _ _ _ c.loop-o.invariant.0 _ c.attribute_in.ensures _ _ _ (search rules) c.put_attribute-o.ensures, search rules)))

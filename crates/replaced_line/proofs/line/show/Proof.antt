@@ -14,9 +14,9 @@ show_spec =
     (λ c. search rules)
     (λ c κs. search rules)
     (λ c. search rules)
-    (λ c. filled_short _ _ c.put_line.new.out _ c.put_line.auto.out c.put_line.ensures _ c.in-No.is)
+    (λ c. filled_short _ _ c.put_line.new.out _ c.put_line.auto.out c.put_line.ensures _ c.in-Err.is)
     (λ c. search rules)
     (λ c.
     filled_written _ _ c.put_line.new.out _ c.put_line.auto.out c.put_line.ensures _
-    c.put_line-in-At.result c.put_line-in-At.new.out c.in-At.is
-    c.put_line-in-At.ensures))
+    c.put_line-in-Ok.result c.put_line-in-Ok.new.out c.in-Ok.is
+    c.put_line-in-Ok.ensures))

@@ -1,0 +1,10 @@
+-- The test of the table's rule is computed here, over the code's own table.
+use Rattle.error.specs.Answer.{if_eq}
+use Rattle.crc.specs.Crc.{shift, shifts}
+use Rattle.crc.proofs.Tables.{table_rule}
+use Rattle.name_hash.specs.Hash.{castagnoli}
+use Rattle.name_hash.proofs.table.Goals as goal
+
+pub returns : goal.returns
+unfolding shift shifts if_eq
+returns c = table_rule castagnoli _ tt tt
