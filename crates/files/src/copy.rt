@@ -13,6 +13,7 @@ use extents::block_size;
 use lists::{Seen, extent_in};
 use obj::Reader;
 use records::Extent;
+use text::copy;
 
 // An extent that was allowed, laid over the bytes of the file from off on.
 #[tactic(auto, using(crate::proofs::PasteLaws::laying))]
@@ -29,7 +30,7 @@ pub fn lay_at(image: &[u8], reader: Reader, off: u64, out: &mut [u8], e: Extent)
     let from = (e.phys_block * block_size(reader) + (a - e.logical)) as usize;
     let len = (b - a) as usize;
     let at = (a - off) as usize;
-    out[at..at + len].copy_from_slice(&image[from..from + len]);
+    copy(&mut out[at..at + len], &image[from..from + len]);
 }
 
 // The bytes of the file from off on: zeros, and over them the extents from an entry of a step on, which were decided upon.

@@ -11,4 +11,4 @@ pub returns-in-Past : goal.returns-in-Past
 returns-in-Past c = let w = rw c.in-Past.is at c.way_of.ensures in text_past _ _ _ _ c.in_ok-n.was (omega (arith, w.0)) _ (omega (arith, w.0)) w.1
 
 pub returns-in-Stored : goal.returns-in-Stored
-returns-in-Stored c = let w = rw c.in-Stored.is at c.way_of.ensures in text_stored _ _ _ _ c.in_ok-n.was (omega (arith, w.0)) _ (omega (arith, w.0)) _ (copied _ _ _ _ _ (omega arith) c.copy_from_slice.ensures.after (omega (arith, w.1)))
+returns-in-Stored c = let w = rw c.in-Stored.is at c.way_of.ensures in text_stored _ _ _ _ c.in_ok-n.was (omega (arith, w.0)) _ (omega (arith, w.0)) _ (copied _ _ _ _ _ (omega arith) c.copy.ensures (omega (arith, w.1)))
