@@ -4,6 +4,8 @@ use mathlib.Core.Path.{◌≡◌, refl, sym, ap, ◌∙◌, fun_ext}
 use mathlib.Core.Bool.{Bool, true, false}
 use mathlib.Core.List.{List, [], ◌∷◌}
 use native.Mathlib.Omega.{arith}
+use lib.Dec.{leb}
+use borrow.Author.Tests.{leb-true, leb-false}
 use borrow.Author.Rules.{rules}
 use Rattle.error.specs.Answer.{Answer, Ok, Err, pick, if_le}
 use Rattle.error.specs.declared.Refusal.{Refusal}
@@ -184,6 +186,13 @@ module _ (b : List ℕ) (q : Search) (off stop : ℕ) (n : Run) where
         goes = on;
         near = λ r d. seek_past off e.logical _ _ v (rw o.last at d) ∙ sym (seek_stays off _ e _ v) ∙ from_here r d;
       }
+
+-- whether an extent begins at or before the offset
+pub by_start : (a b : ℕ) (z : Bool) → z ≡ leb a b → z ≡ true → a ≤ b
+by_start a b z e t = leb-true a b (sym e ∙ t)
+
+pub by_later : (a b : ℕ) (z : Bool) → z ≡ leb a b → z ≡ false → b < a
+by_later a b z e t = leb-false a b (sym e ∙ t)
 
 pub judge_whole : (b : List ℕ) (q : Search) (off stop : ℕ) (n : Run) (t : Step) (r : Judged) → Begins b q t n → judged_told b q r ≡ judged_of b q off stop (run_at b q t t.from) →
     judged_told b q r ≡ judged_of b q off stop n

@@ -1,5 +1,5 @@
 // The deciding pass: all extents of a file are read, and no byte of the buffer is written.
-ghost use Rattle.std.specs.Prelude.{◌≡◌, false};
+ghost use Rattle.std.specs.Prelude.{◌≡◌, false, leb};
 ghost use Rattle.error.specs.Answer.{pick, if_le};
 ghost use Rattle.btree.specs.Scan.{scan_of};
 ghost use Rattle.cursor.specs.Left.{run_at};
@@ -63,6 +63,13 @@ fn closed(j: Judging) -> Result<(), Refusal>
     Err(Refusal::Corrupt)
 }
 
+// The extents from the last one that begins at or before the offset on are read.
+fn begins_by(e: Extent, off: u64) -> bool
+    ensures { result ≡ leb e.logical off }
+{
+    e.logical <= off
+}
+
 // The extents from a step on.
 #[tactic(auto, using(crate::proofs::JudgeTurns::turns))]
 pub fn judge_from(image: &[u8], q: Search, off: u64, stop: u64, start: Step) -> Judged
@@ -88,7 +95,7 @@ pub fn judge_from(image: &[u8], q: Search, off: u64, stop: u64, start: Step) -> 
             }
             Seen::Element(e, after) => {
                 j = one_more(image, q.keys.reader, off, stop, j, e);
-                if e.logical <= off {
+                if begins_by(e, off) {
                     here = true;
                     from = i;
                 }
