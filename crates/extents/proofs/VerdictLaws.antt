@@ -12,11 +12,11 @@ use Rattle.extents.proofs.ExtentLaws.{blocks_mono, block_below}
 
 -- blocks of bs bytes
 module _ (bs n : ℕ) (pos : 0 < bs) where
-  blocks_even : n % bs ≡ 0 → n / bs ≡ blocks bs n
+  pub blocks_even : n % bs ≡ 0 → n / bs ≡ blocks bs n
   unfolding blocks
   blocks_even h = sym (div-eq_of_lt-le bs (omega (arith, div-add-mod' n bs)) (omega (arith, div-add-mod' n bs)))
 
-  blocks_odd : (n % bs ≡ 0 → ⊥) → n / bs + 1 ≡ blocks bs n
+  pub blocks_odd : (n % bs ≡ 0 → ⊥) → n / bs + 1 ≡ blocks bs n
   unfolding blocks
   blocks_odd h = sym (div-eq_of_lt-le bs (omega (arith, div-add-mod' n bs)) (omega (arith, div-add-mod' n bs, mod-lt n pos)))
 

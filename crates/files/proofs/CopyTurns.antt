@@ -69,10 +69,10 @@ module _ (b : List ℕ) (q : Search) (off m : ℕ) (s : Step) (i : ℕ) (out who
   Filling = Laying (disk_of q.keys.reader b) off m (readable (extent_at q.keys.reader b) (run_at b q s i)) out whole
 
   module _ (l : Filling) (x : Seen Extent) (k : x ≡ seen_in (extent_at q.keys.reader b) (in_step b q s.reached i)) where
-    fill_over : x ≡ Over → out ≡ whole
+    pub fill_over : x ≡ Over → out ≡ whole
     fill_over y = done (disk_of q.keys.reader b) off m out whole (rw (readable_over (extent_at q.keys.reader b) b q s i x k y) at l)
 
-    fill_no : (w : Refusal) → x ≡ Refused w → out ≡ whole
+    pub fill_no : (w : Refusal) → x ≡ Refused w → out ≡ whole
     fill_no w y = done (disk_of q.keys.reader b) off m out whole (rw (readable_no (extent_at q.keys.reader b) b q s i x k w y) at l)
 
     pub fill_ends : (x ≡ Over) ⊎ ((w : Refusal) × (x ≡ Refused w)) → out ≡ whole

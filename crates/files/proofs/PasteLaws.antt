@@ -32,7 +32,7 @@ module _ (d : Disk) (off : ℕ) (e : Extent) (b : List ℕ) where
   pub lay_sparse : e.phys_block ≡ 0 → b ≡ lay d off (e ∷ []) b
   lay_sparse h = sym (lay_skip d off e [] b (inr (omega arith)) ∙ lay_none d off b)
 
-  lay_pasted : (a z m : ℕ) (out : List ℕ) → allows d off (off + length b) e ≡ fine → a ≡ max off e.logical → z ≡ min (off + length b) (end e) → a < z → (e.phys_block ≡ 0 → ⊥)
+  pub lay_pasted : (a z m : ℕ) (out : List ℕ) → allows d off (off + length b) e ≡ fine → a ≡ max off e.logical → z ≡ min (off + length b) (end e) → a < z → (e.phys_block ≡ 0 → ⊥)
       → m ≡ d.block → 0 < m → out ≡ paste b (a - off) (drop (e.phys_block * m + (a - e.logical)) d.image) (z - a) → out ≡ lay d off (e ∷ []) b
   lay_pasted a z m out w qa qz h p y pos r =
       let k : 0 < d.block = omega arith in

@@ -18,7 +18,7 @@ use Rattle.text.proofs.Writing.{puts_refused}
 use Rattle.extents.proofs.Verdicts.{le_or_gt}
 
 -- a text that the room does not have is refused, also where it would begin past the room
-too_long : (room : ℕ) (t b : List ℕ) (k : ℕ) → room - k < length t → puts room t (at b k) ≡ refused BufferTooShort
+pub too_long : (room : ℕ) (t b : List ℕ) (k : ℕ) → room - k < length t → puts room t (at b k) ≡ refused BufferTooShort
 unfolding puts put
 too_long room [] b k h = absurd (omega arith)
 too_long room (x ∷ t) b k h = of (le_or_gt k room)
